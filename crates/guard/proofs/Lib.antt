@@ -1,0 +1,3 @@
+pub mod Regions
+pub mod Bounded
+pub mod Exactness

@@ -1,0 +1,5 @@
+pub mod Regions
+pub mod Refusals
+pub mod Meaning
+pub mod Driven
+pub mod Bounded

@@ -1,0 +1,6 @@
+pub mod Refusals
+pub mod Held
+pub mod Rolling
+pub mod CartStates
+pub mod CartMeaning
+pub mod CartMaking
