@@ -21,7 +21,8 @@ use Rattle.guard.proofs.Exactness.{exact}
 use Rattle.machines.specs.declared.cart.state.CartState.{CartState}
 use Rattle.machines.specs.Held.{held, held-size}
 use Rattle.machines.specs.Rolling.{on-axis, stretch, slowed, braking-cover}
-use Rattle.machines.specs.CartStates.{state-at, after, moved, draw, distance, ticks, numbers, made}
+use Rattle.machines.specs.BrakingDistance.{distance}
+use Rattle.machines.specs.CartStates.{state-at, after, moved, draw, ticks, numbers, made}
 use Rattle.machines.specs.CartMeaning.{cart}
 use Rattle.machines.proofs.Rolling.{Braking, slowed-size, brake-shrinks, cover-corner, cover-place, cover-alone, brake-reaches}
 use Rattle.machines.proofs.Distances.{distance-step}

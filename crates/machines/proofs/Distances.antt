@@ -6,7 +6,7 @@ use lib.Dec.{leb, eqb}
 use Rattle.std.proofs.shelf.Tests.{leb-true, eqb-true}
 use Rattle.guard.specs.Bounded.{each}
 use Rattle.guard.proofs.Bounded.{each-at}
-use Rattle.machines.specs.CartStates.{distance}
+use Rattle.machines.specs.BrakingDistance.{distance}
 
 pub distance-bound : (u : ℕ) → u < 41 → distance u ≤ 380
 distance-bound u h = leb-true (distance u) 380 (each-at 41 u (λ k. leb (distance k) 380) h refl)

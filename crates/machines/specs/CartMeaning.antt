@@ -4,7 +4,8 @@ use Rattle.guard.specs.Meaning.{Meaning}
 use Rattle.guard.specs.Regions.{holds, encloses}
 use Rattle.machines.specs.declared.cart.state.CartState.{CartState}
 use Rattle.machines.specs.Rolling.{on-axis, stretch, braking-cover}
-use Rattle.machines.specs.CartStates.{after, draw, distance, ticks, numbers, made}
+use Rattle.machines.specs.BrakingDistance.{distance}
+use Rattle.machines.specs.CartStates.{after, draw, ticks, numbers, made}
 
 -- the cart on the rail from 0 to the given length
 abbrev pub cart : ℤ → Meaning CartState

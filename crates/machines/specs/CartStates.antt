@@ -1,6 +1,6 @@
--- The states of a cart, how it moves from one to the next, and how far it rolls until it rests.
+-- The states of a cart, and how it moves from one to the next.
 use mathlib.Core.Bool.{Bool, cond, _&&_}
-use Prim.Native.Nat.{ℕ, _+_, _-_, _*_, _/_, _%_}
+use Prim.Native.Nat.{ℕ, _+_, _/_}
 use lib.Dec.{eqb, leb, ltb}
 use lib.IntN.{ℤ, pos, natAbs, _+ℤ_, _-ℤ_}
 use Rattle.std.specs.declared.option.Option.{Option}
@@ -40,12 +40,6 @@ after s a w = cond (ltb a 8 && ltb w 3) (moved s (speed-after (s .v) a w)) s
 
 abbrev pub draw : CartState → ℕ → ℕ
 draw s a = cond (ltb a 7) (1 + natAbs (acceleration a)) (cond (eqb a 7 && ltb 0 (natAbs (s .v))) 1 0)
-
--- the braking distance at the speed size u: k(k − 1) for u = 2k, and k·k for u = 2k + 1
-abbrev pub distance : ℕ → ℕ
-distance u =
-    let k = u / 2 in
-    cond (eqb (u % 2) 0) (k * (k - 1)) (k * k)
 
 -- half the speed's size, rounded up
 abbrev pub ticks : CartState → ℕ

@@ -1,6 +1,7 @@
 ghost use lib.IntN.{pos};
 ghost use lib.Signed.{_≤ℤ_};
 
+mod distances;
 pub mod guarding;
 pub mod state;
 

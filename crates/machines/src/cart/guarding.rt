@@ -5,7 +5,7 @@ ghost use lib.IntN.{pos};
 ghost use Rattle.guard.specs.Driven.{Withstands};
 ghost use Rattle.guard.specs.Regions.{encloses};
 ghost use Rattle.machines.specs.CartMeaning.{cart as means};
-ghost use Rattle.machines.specs.CartStates.{distance};
+ghost use Rattle.machines.specs.BrakingDistance.{distance};
 ghost use Rattle.machines.specs.CartMaking.{lengths, rail};
 ghost use Rattle.machines.specs.Rolling.{on-axis, stretch as span, braking-cover};
 ghost use Rattle.machines.specs.Refusals.{numbered};

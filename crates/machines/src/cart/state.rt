@@ -1,7 +1,7 @@
 ghost use Prim.Native.Nat.{_≤_};
 ghost use lib.IntN.{natAbs};
 
-pub mod moves;
+pub(crate) mod moves;
 
 // Where a cart is on its axis, from −1,000,000 to 1,000,000, and how far it moves in a tick, from −40 to 40.
 #[derive(Clone, Copy)]

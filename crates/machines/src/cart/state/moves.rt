@@ -1,9 +1,11 @@
 ghost use mathlib.Core.Path.{_≡_};
 ghost use Prim.Native.Nat.{_≤_, _<_, _+_};
 ghost use lib.IntN.{ℤ, pos, natAbs};
-ghost use Rattle.machines.specs.CartStates.{state-at, pushed as sum, speed-after, moved as rolled, after as next, draw as drawn, distance, ticks as wait, numbers as named, made};
+ghost use Rattle.machines.specs.CartStates.{state-at, pushed as sum, speed-after, moved as rolled, after as next, draw as drawn, ticks as wait, numbers as named, made};
+ghost use Rattle.machines.specs.BrakingDistance.{distance};
 ghost use Rattle.machines.specs.Rolling.{slowed as slower};
 use super::CartState;
+use crate::cart::distances::DISTANCES;
 
 const MAX_X: i32 = 1_000_000;
 
@@ -14,51 +16,6 @@ pub(crate) const ACTIONS: u8 = 8;
 pub(crate) const GUSTS: u8 = 3;
 
 pub(crate) const BRAKE: u8 = 7;
-
-// The braking distances for the speed sizes 0 to 40.
-const DISTANCES: [u32; 41] = [
-    0,
-    0,
-    0,
-    1,
-    2,
-    4,
-    6,
-    9,
-    12,
-    16,
-    20,
-    25,
-    30,
-    36,
-    42,
-    49,
-    56,
-    64,
-    72,
-    81,
-    90,
-    100,
-    110,
-    121,
-    132,
-    144,
-    156,
-    169,
-    182,
-    196,
-    210,
-    225,
-    240,
-    256,
-    272,
-    289,
-    306,
-    324,
-    342,
-    361,
-    380,
-];
 
 // The speed with `by` taken off its size, never past 0.
 fn slowed(v: i32, by: u8) -> i32
@@ -142,7 +99,7 @@ impl CartState {
         ensures value { λ r. ⌜ r ≡ distance (natAbs (self .v)) ⌝ }
         ensures bound { λ r. ⌜ r ≤ 380 ⌝ }
     {
-        DISTANCES[self.v.unsigned_abs() as usize]
+        DISTANCES.at(self.v.unsigned_abs() as usize)
     }
 
     pub(crate) fn x(self) -> i32
