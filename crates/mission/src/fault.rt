@@ -1,0 +1,94 @@
+use std::alloc::AllocError;
+use std::alloc::Refused;
+use std::fmt;
+use std::io;
+
+// What is wrong with a word. Where the library refuses it, the number of the refusal.
+#[derive(Clone, Copy)]
+pub enum Why {
+    NoCommand,
+    NoMachine,
+    NoRail(u8),
+    NoState(u8),
+    CartForm,
+    NotNumbers,
+    NotCharge,
+    NoGust,
+    NoOption,
+    NoValue,
+}
+
+impl Why {
+    // The number under which the library refuses the word.
+    fn refusal(self) -> Option<u8> {
+        match self {
+            Why::NoRail(number) | Why::NoState(number) => Some(number),
+            _ => None,
+        }
+    }
+
+    fn text(self) -> &'static str {
+        match self {
+            Why::NoCommand => "no such command",
+            Why::NoMachine => "no such machine",
+            Why::NoRail(_) => "no such rail",
+            Why::NoState(_) => "no such state",
+            Why::CartForm => "a cart's state is written PLACE,SPEED",
+            Why::NotNumbers => "not whole numbers",
+            Why::NotCharge => "not a charge from 0 to 65535",
+            Why::NoGust => "the machine has no such gust",
+            Why::NoOption => "no such option",
+            Why::NoValue => "no value follows the option",
+        }
+    }
+}
+
+// Why a command is not carried out. It shows as one line that names the word at fault.
+#[derive(Drop)]
+pub enum Fault<'a> {
+    Usage,
+    Word(Why, &'a str),
+    Output,
+    Memory,
+}
+
+pub impl fmt::Display for Fault<'_> as FaultDisplay {
+    fn fmt<W: fmt::Write>(&self, f: &mut fmt::Formatter<W>) -> fmt::Result {
+        match self {
+            Fault::Usage => {
+                write!(
+                    f,
+                    "usage: mission brake cart:LENGTH PLACE,SPEED [--charge N] [--gusts W,W,..]"
+                )
+            }
+            Fault::Word(why, word) => {
+                let text = why.text();
+                write!(f, "{text}: '{word}'")?;
+                match why.refusal() {
+                    Some(number) => write!(f, ": refused {number}"),
+                    None => Ok(()),
+                }
+            }
+            Fault::Output => write!(f, "standard output cannot be written"),
+            Fault::Memory => write!(f, "no memory is left"),
+        }
+    }
+}
+
+pub impl From<io::Error> for Fault<'_> as FaultFromIo {
+    fn from(_e: io::Error) -> Self {
+        Fault::Output
+    }
+}
+
+pub impl From<AllocError> for Fault<'_> as FaultFromAlloc {
+    fn from(_e: AllocError) -> Self {
+        Fault::Memory
+    }
+}
+
+pub impl<T: Drop> From<Refused<T>> for Fault<'_> as FaultFromRefused {
+    fn from(_e: Refused<T>) -> Self {
+        Fault::Memory
+    }
+}

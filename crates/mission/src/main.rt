@@ -1,0 +1,36 @@
+mod brake;
+mod commands;
+mod fault;
+mod machine;
+mod options;
+mod words;
+
+use fault::Fault;
+use fault::FaultDisplay;
+use fault::Why;
+use std::env;
+use std::error::AnyError;
+
+fn run<'a>(rt: &LibcRuntime, words: &'a [String]) -> Result<(), Fault<'a>> {
+    match words {
+        [command, machine, state, options @ ..] => match command.as_str() {
+            "brake" => commands::brake_at(rt, machine.as_str(), state.as_str(), options),
+            other => Err(Fault::Word(Why::NoCommand, other)),
+        },
+        _ => Err(Fault::Usage),
+    }
+}
+
+fn main(rt: LibcRuntime) -> Result<(), AnyError> {
+    let mut words = Vec::new(rt.alloc());
+    for word in env::args(&rt)?.skip(1) {
+        words.push(word)?;
+    }
+    match run(&rt, words.as_slice()) {
+        Ok(()) => Ok(()),
+        Err(fault) => {
+            eprintln!(rt, "mission: {fault}")?;
+            Err("refused".into())
+        }
+    }
+}

@@ -1,0 +1,44 @@
+use crate::fault::Fault;
+use crate::fault::Why;
+use crate::words;
+
+// What stands after the words of a command: the charge, the full one where none is given, and the gusts.
+#[derive(Clone, Copy)]
+pub struct Options<'a> {
+    pub charge: u16,
+    pub gusts: &'a str,
+}
+
+impl<'a> Options<'a> {
+    fn set(self, name: &'a str, value: &'a str) -> Result<Options<'a>, Fault<'a>> {
+        match name {
+            "--charge" => match words::charge(value) {
+                Ok(charge) => Ok(Options {
+                    charge,
+                    gusts: self.gusts,
+                }),
+                Err(why) => Err(Fault::Word(why, value)),
+            },
+            "--gusts" => Ok(Options {
+                charge: self.charge,
+                gusts: value,
+            }),
+            _ => Err(Fault::Word(Why::NoOption, name)),
+        }
+    }
+}
+
+pub fn read(words: &[String]) -> Result<Options<'_>, Fault<'_>> {
+    let mut options = Options {
+        charge: u16::MAX,
+        gusts: "",
+    };
+    for pair in words.chunks(2) {
+        match pair {
+            [name, value] => options = options.set(name.as_str(), value.as_str())?,
+            [name, ..] => return Err(Fault::Word(Why::NoValue, name.as_str())),
+            [] => {}
+        }
+    }
+    Ok(options)
+}
