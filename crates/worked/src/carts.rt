@@ -85,3 +85,117 @@ fn speeds_and_places() -> Result<(), Fail> {
     }
     Ok(())
 }
+
+fn recovers(cart: &Cart, x: i32, v: i32) -> Result<bool, Fail> {
+    let state = state(cart, x, v)?;
+    Ok(cart.recoverable(Reading {
+        state,
+        charge: 65535,
+    }))
+}
+
+#[test]
+fn recoverable_edges() -> Result<(), Fail> {
+    let cart = cart(1000)?;
+    check(recovers(&cart, 910, 20)?)?;
+    check(!recovers(&cart, 911, 20)?)?;
+    check(recovers(&cart, 2, -4)?)?;
+    check(!recovers(&cart, 1, -4)?)?;
+    check(recovers(&cart, 0, 0)? && recovers(&cart, 1000, 0)?)?;
+    check(!recovers(&cart, -1, 0)? && !recovers(&cart, 1001, 0)?)
+}
+
+// A speed, and the ends of the cover at the place 500.
+const COVERS: [(i32, i32, i32); 17] = [
+    (0, 500, 500),
+    (1, 500, 500),
+    (-1, 500, 500),
+    (2, 500, 500),
+    (-2, 500, 500),
+    (3, 500, 501),
+    (-3, 499, 500),
+    (4, 500, 502),
+    (-4, 498, 500),
+    (5, 500, 504),
+    (-5, 496, 500),
+    (20, 500, 590),
+    (-20, 410, 500),
+    (39, 500, 861),
+    (-39, 139, 500),
+    (40, 500, 880),
+    (-40, 120, 500),
+];
+
+#[test]
+fn covers() -> Result<(), Fail> {
+    let cart = cart(1000)?;
+    for (v, low, high) in COVERS {
+        let cover = cart.cover(state(&cart, 500, v)?);
+        check_eq((cover.low.x, cover.low.y, cover.low.z), (low, 0, 0))?;
+        check_eq((cover.high.x, cover.high.y, cover.high.z), (high, 0, 0))?;
+    }
+    Ok(())
+}
+
+#[test]
+fn draws_and_ticks() -> Result<(), Fail> {
+    let cart = cart(1000)?;
+    let rolling = state(&cart, 500, -5)?;
+    let resting = state(&cart, 500, 0)?;
+    for (a, most) in [
+        (0, 4),
+        (1, 3),
+        (2, 2),
+        (3, 1),
+        (4, 2),
+        (5, 3),
+        (6, 4),
+        (8, 0),
+        (255, 0),
+    ] {
+        check_eq(cart.draw(rolling, a), most)?;
+        check_eq(cart.draw(resting, a), most)?;
+    }
+    check_eq(cart.draw(rolling, 7), 1)?;
+    check_eq(cart.draw(resting, 7), 0)?;
+    check_eq((cart.ticks(rolling), cart.ticks(resting)), (3, 0))?;
+    check_eq((cart.fallback(rolling), cart.fallback_draw()), (7, 1))
+}
+
+#[test]
+fn out_of_range_does_nothing() -> Result<(), Fail> {
+    let cart = cart(1000)?;
+    check_eq((cart.action_count(), cart.gust_count()), (8, 3))?;
+    moves(&cart, 500, 5, 8, 0, (500, 5))?;
+    moves(&cart, 500, 5, 255, 1, (500, 5))?;
+    moves(&cart, 500, 5, 7, 3, (500, 5))
+}
+
+fn making_refused(length: i32) -> Result<(), Fail> {
+    match Cart::new(length) {
+        Ok(_) => Err(Fail::new("made")),
+        Err(e) => check_eq(e.number(), 3),
+    }
+}
+
+fn state_refused(n: (i32, i32, i32)) -> Result<(), Fail> {
+    match cart(1000)?.state(n) {
+        Ok(_) => Err(Fail::new("made")),
+        Err(e) => check_eq(e.number(), 5),
+    }
+}
+
+#[test]
+fn refusals() -> Result<(), Fail> {
+    making_refused(0)?;
+    making_refused(-1)?;
+    making_refused(100_001)?;
+    making_refused(i32::MIN)?;
+    cart(1)?;
+    cart(100_000)?;
+    state_refused((1_000_001, 0, 0))?;
+    state_refused((i32::MIN, 0, 0))?;
+    state_refused((0, 41, 0))?;
+    state_refused((0, -41, 0))?;
+    state_refused((0, 0, 1))
+}

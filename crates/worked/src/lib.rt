@@ -2,6 +2,8 @@ ghost use Rattle.worked.specs.Edges.{Edges};
 
 #[cfg(test)]
 mod carts;
+#[cfg(test)]
+mod regions;
 
 // The worked edges of the rules hold of the definitions that the contracts cite.
 pub fn edges_hold()
