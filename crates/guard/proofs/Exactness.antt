@@ -11,24 +11,12 @@ use Rattle.std.proofs.shelf.Tests.{cases-eq}
 use Rattle.std.specs.shelf.Lists.{All}
 use Rattle.guard.specs.declared.reading.Reading.{Reading}
 use Rattle.guard.specs.Meaning.{Meaning, Laws, Follows, Falls-back}
+use Rattle.guard.proofs.Decision.{T-true, true-T, lowest-follows}
 use Rattle.guard.specs.Driven.{driven, fallen-back, Withstands, Exact}
 
-pub T-true : (b : Bool) → T b → b ≡ true
-T-true true t = refl
-T-true false t = absurd t
-
-pub true-T : (b : Bool) → b ≡ true → T b
-true-T b e = rw e tt
-
 module _ {S : Type 0} (m : Meaning S) (laws : Laws m) where
-  -- what the fallback comes to under a gust, with the most charge drawn, can follow
-  pub falls-back : (r : Reading S) (w : ℕ) → w < m .gusts → Falls-back m r (fallen-back m r w)
-  falls-back r w h = record {
-    action = laws .fallback-known (r .state);
-    gust = (w, h, refl);
-    low = omega arith;
-    high = omega arith;
-  }
+  falls-back : (r : Reading S) (w : ℕ) → w < m .gusts → Falls-back m r (fallen-back m r w)
+  falls-back r w h = lowest-follows m r (m .fallback (r .state)) w (laws .fallback-known (r .state)) h
 
   pub recoverable-withstands : (r : Reading S) → T (m .recoverable r) → Withstands m r
   recoverable-withstands r h [] a = laws .safely r h

@@ -1,3 +1,4 @@
 pub mod Regions
 pub mod Bounded
+pub mod Decision
 pub mod Exactness

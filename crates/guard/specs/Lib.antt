@@ -3,3 +3,4 @@ pub mod Refusals
 pub mod Meaning
 pub mod Driven
 pub mod Bounded
+pub mod Decision

@@ -7,6 +7,7 @@ pub mod fallback;
 pub mod geometry;
 pub mod reading;
 pub mod refusal;
+pub mod rule;
 
 use geometry::Point;
 use geometry::Region;

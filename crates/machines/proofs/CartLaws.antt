@@ -24,6 +24,7 @@ use Rattle.machines.specs.Rolling.{on-axis, stretch, slowed, braking-cover}
 use Rattle.machines.specs.BrakingDistance.{distance}
 use Rattle.machines.specs.CartStates.{state-at, after, moved, draw, ticks, numbers, made}
 use Rattle.machines.specs.CartMeaning.{cart}
+use Rattle.machines.proofs.Held.{held-still}
 use Rattle.machines.proofs.Rolling.{Braking, slowed-size, brake-shrinks, cover-corner, cover-place, cover-alone, brake-reaches}
 use Rattle.machines.proofs.Distances.{distance-step}
 use Rattle.machines.proofs.CartStates.{same-state}
@@ -33,9 +34,6 @@ use Rattle.machines.proofs.Housed.{Housed}
 
 braking : Braking 2 40 distance
 braking = record { some = lit< tt; still = refl; step = λ u h. distance-step u (omega arith) }
-
-held-still : (n : ℕ) (z : ℤ) → natAbs z ≤ n → held n z ≡ z
-held-still n z h = omega (arith, ints, clamps)
 
 -- a tick of the brake, by its numbers
 module _ (s : CartState) (w : ℕ) (h : w < 3) where

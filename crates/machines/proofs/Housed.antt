@@ -14,7 +14,8 @@ use Rattle.guard.specs.Regions.{Inside, Within, holds, encloses}
 use Rattle.guard.specs.Meaning.{Meaning, Falls-back, with-charge}
 use Rattle.guard.specs.Driven.{fallen-back}
 use Rattle.guard.proofs.Regions.{decides-holds, decides-encloses}
-use Rattle.guard.proofs.Exactness.{Tight, T-true, true-T}
+use Rattle.guard.proofs.Decision.{T-true, true-T}
+use Rattle.guard.proofs.Exactness.{Tight}
 
 pub record Housed {S : Type 0} (m : Meaning S) (hall : Region) : Type 0 where
   pub safe-is : (r : Reading S) → m .safe r ≡ holds hall (m .place (r .state))

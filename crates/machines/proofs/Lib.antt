@@ -1,6 +1,9 @@
+pub mod Held
 pub mod Rolling
 pub mod Made
+pub mod Housed
 pub mod CartStates
 pub mod Distances
-pub mod Housed
 pub mod CartLaws
+pub mod DroneStates
+pub mod DroneLaws

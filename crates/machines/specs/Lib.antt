@@ -5,3 +5,7 @@ pub mod BrakingDistance
 pub mod CartStates
 pub mod CartMeaning
 pub mod CartMaking
+pub mod HallSize
+pub mod DroneStates
+pub mod DroneMeaning
+pub mod DroneMaking

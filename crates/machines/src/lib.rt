@@ -1,2 +1,3 @@
 pub mod cart;
+pub mod drone;
 pub mod making;

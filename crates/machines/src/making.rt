@@ -8,6 +8,8 @@ use guard::refusal::Refusal;
 pub enum MakingRefusal {
     // a rail's length is not from 1 to 100,000
     RailLength = 3,
+    // a hall's size is not from 1 to 63 on each axis
+    HallSize = 4,
 }
 
 pub impl Refusal for MakingRefusal as MakingRefusalNumber {
