@@ -5,6 +5,8 @@ use Prim.Native.Nat.{ℕ, _<_}
 use lib.Dec.{T, ltb, leb}
 use lib.IntN.{ℤ}
 use lib.Signed.{leZ}
+use Rattle.std.specs.declared.option.Option.{Option}
+use Rattle.std.specs.Options.{Cases}
 use Rattle.std.specs.Orderings.{When}
 use Rattle.guard.specs.declared.reading.Reading.{Reading}
 use Rattle.guard.specs.Bounded.{each, any}
@@ -48,6 +50,12 @@ pub record Admits {S : Type 0} (m : Meaning S) (r : Reading S) (a : ℕ) : Type 
 -- something unrecoverable can follow r under a
 abbrev pub Endangers : {S : Type 0} → Meaning S → Reading S → ℕ → Type 0
 Endangers m r a = (t : Reading _) × Follows m r a t × (m .recoverable t ≡ false)
+
+-- o is the first gust under which what follows r under a, with the lowest charge, is not recoverable, or none
+abbrev pub First-danger : {S : Type 0} → Meaning S → Reading S → ℕ → Option ℕ → Type 0
+First-danger m r a o =
+    Cases o ((w : ℕ) → w < m .gusts → m .recoverable (lowest m r a w) ≡ true)
+    (λ w. (w < m .gusts) × (m .recoverable (lowest m r a w) ≡ false) × ((k : ℕ) → k < w → m .recoverable (lowest m r a k) ≡ true))
 
 -- whatever can follow r, under any action, is recoverable
 abbrev pub Calm : {S : Type 0} → Meaning S → Reading S → Type 0

@@ -3,24 +3,23 @@ ghost use mathlib.Core.Path.{_≡_};
 ghost use lib.Dec.{leb};
 ghost use Prim.Native.Nat.{_<_};
 ghost use Rattle.std.specs.Orderings.{Decides};
-ghost use Rattle.guard.specs.Driven.{lowest as drawn};
 ghost use Rattle.guard.specs.Meaning.{Follows, Numbers};
-ghost use Rattle.guard.specs.Decision.{Tells-each, Tells-some, Admits, Endangers, Calm};
+ghost use Rattle.guard.specs.Decision.{Tells-each, Tells-some, First-danger, Admits, Endangers, Calm};
 ghost use Rattle.guard.specs.Decision.{admissible as admitted, calm as calmed, same-number, same-numbers, state-follows, charge-follows, follows as followed};
 use crate::Guard;
 use crate::fallback::lowest;
 use crate::reading::Reading;
 
-// Whether the reading that follows under each gust, with the lowest charge, is recoverable.
-fn recoverable_under_each_gust<G: Guard>(g: &G, r: Reading<G::State>, a: u8) -> bool
-    ensures { λ y. ⌜ Tells-each y (G·Guard .meaning (now (g .entry)) .gusts) (λ w. G·Guard .meaning (now (g .entry)) .recoverable (drawn (G·Guard .meaning (now (g .entry))) r a w)) ⌝ }
+// The first gust under which the reading that follows, with the lowest charge, is not recoverable.
+pub fn endangering_gust<G: Guard>(g: &G, r: Reading<G::State>, a: u8) -> Option<u8>
+    ensures { λ o. ⌜ First-danger (G·Guard .meaning (now (g .entry))) r a o ⌝ }
 {
     for w in 0..g.gust_count() {
         if !g.recoverable(lowest(g, r, a, w)) {
-            return false;
+            return Some(w);
         }
     }
-    true
+    None
 }
 
 // Whether the action keeps the machine recoverable, whatever the gust and the draw.
@@ -29,7 +28,7 @@ pub fn admissible<G: Guard>(g: &G, r: Reading<G::State>, a: u8) -> bool
     ensures means { λ y. ⌜ Decides y (Admits (G·Guard .meaning (now (g .entry))) r a) ⌝ }
     ensures danger { λ y. ⌜ (y ≡ false → a < G·Guard .meaning (now (g .entry)) .actions → Endangers (G·Guard .meaning (now (g .entry))) r a) ⌝ }
 {
-    a < g.action_count() && recoverable_under_each_gust(g, r, a)
+    a < g.action_count() && endangering_gust(g, r, a).is_none()
 }
 
 fn each_action_admissible<G: Guard>(g: &G, r: Reading<G::State>) -> bool

@@ -154,7 +154,7 @@ drone-housed size small = record {
 made-again : (s : DroneState) → made (numbers s) ≡ Some s
 made-again s =
     let e : ((leb (natAbs (s .x)) 1000 && leb (natAbs (s .y)) 1000) && (leZ (pos 0) (pos (s .z)) && leZ (pos (s .z)) (pos 1000))) ≡ true =
-        and-from _ _ (and-from _ _ (le-leb _ _ (s .near)) (le-leb _ _ (s .close))) (and-from _ _ (le-leb 0 (s .z) (omega arith)) (le-leb _ _ (s .low))) in
+    and-from _ _ (and-from _ _ (le-leb _ _ (s .near)) (le-leb _ _ (s .close))) (and-from _ _ (le-leb 0 (s .z) (omega arith)) (le-leb _ _ (s .low))) in
     cond-true _ _ _ e ∙ ap Some (same-cell (cell-at (s .x) (s .y) (s .z)) s (held-still 1000 (s .x) (s .near)) (held-still 1000 (s .y) (s .close)) (omega (arith, s .low)))
 
 numbers-again : (n : Numbers) (s : DroneState) → made n ≡ Some s → numbers s ≡ n

@@ -2,6 +2,7 @@ use crate::brake;
 use crate::fault::Fault;
 use crate::fault::FaultFromIo;
 use crate::fault::Why;
+use crate::judge;
 use crate::machine::Kind;
 use crate::options;
 use crate::options::Options;
@@ -11,7 +12,15 @@ use guard::reading::Reading;
 use guard::refusal::Refusal;
 use machines::cart::Cart;
 use machines::cart::guarding::CartGuard;
+use machines::drone::Drone;
+use machines::drone::guarding::DroneGuard;
 use machines::making::MakingRefusalNumber;
+
+#[derive(Clone, Copy)]
+pub enum Task {
+    Brake,
+    Judge,
+}
 
 fn cart(length: &str) -> Result<Cart, Why> {
     match Cart::new(words::number(length)?) {
@@ -20,8 +29,18 @@ fn cart(length: &str) -> Result<Cart, Why> {
     }
 }
 
-fn brake_guard<'a, G: Guard>(
+fn drone(size: &str) -> Result<Drone, Why> {
+    let (x, y, z) = words::numbers(3, Why::HallForm, size)?;
+    match Drone::new(x, y, z) {
+        Ok(drone) => Ok(drone),
+        Err(refusal) => Err(Why::NoHall(refusal.number())),
+    }
+}
+
+// Carries the task out on any guard.
+fn carry_out<'a, G: Guard>(
     rt: &LibcRuntime,
+    task: Task,
     kind: Kind,
     g: &G,
     word: &'a str,
@@ -30,28 +49,36 @@ fn brake_guard<'a, G: Guard>(
     let gusts = words::gusts(rt.alloc(), g.gust_count(), given.gusts)?;
     match words::state(g, kind, word) {
         Ok(state) => {
-            let start = Reading {
+            let r = Reading {
                 state,
                 charge: given.charge,
             };
-            brake::brake(rt, kind, g, start, gusts.as_slice())?;
+            match task {
+                Task::Brake => brake::brake(rt, kind, g, r, gusts.as_slice())?,
+                Task::Judge => judge::judge(rt, kind, g, r)?,
+            }
             Ok(())
         }
         Err(why) => Err(Fault::Word(why, word)),
     }
 }
 
-// `mission brake MACHINE STATE ..`
-pub fn brake_at<'a>(
+// `mission brake MACHINE STATE ..` and `mission judge MACHINE STATE ..`
+pub fn on_machine<'a>(
     rt: &LibcRuntime,
+    task: Task,
     machine: &'a str,
     state: &'a str,
     rest: &'a [String],
 ) -> Result<(), Fault<'a>> {
-    let given = options::read(rest)?;
+    let given = options::read(task, rest)?;
     match machine.split_once(':') {
         Some(("cart", length)) => match cart(length) {
-            Ok(cart) => brake_guard(rt, Kind::Cart, &cart, state, given),
+            Ok(cart) => carry_out(rt, task, Kind::Cart, &cart, state, given),
+            Err(why) => Err(Fault::Word(why, machine)),
+        },
+        Some(("drone", size)) => match drone(size) {
+            Ok(drone) => carry_out(rt, task, Kind::Drone, &drone, state, given),
             Err(why) => Err(Fault::Word(why, machine)),
         },
         _ => Err(Fault::Word(Why::NoMachine, machine)),

@@ -3,14 +3,20 @@ use std::alloc::Refused;
 use std::fmt;
 use std::io;
 
+const USAGE: &str =
+    "usage: mission brake|judge cart:LENGTH|drone:X,Y,Z STATE [--charge N] [--gusts W,W,..]";
+
 // What is wrong with a word. Where the library refuses it, the number of the refusal.
 #[derive(Clone, Copy)]
 pub enum Why {
     NoCommand,
     NoMachine,
     NoRail(u8),
+    NoHall(u8),
     NoState(u8),
     CartForm,
+    DroneForm,
+    HallForm,
     NotNumbers,
     NotCharge,
     NoGust,
@@ -22,7 +28,7 @@ impl Why {
     // The number under which the library refuses the word.
     fn refusal(self) -> Option<u8> {
         match self {
-            Why::NoRail(number) | Why::NoState(number) => Some(number),
+            Why::NoRail(number) | Why::NoHall(number) | Why::NoState(number) => Some(number),
             _ => None,
         }
     }
@@ -32,8 +38,11 @@ impl Why {
             Why::NoCommand => "no such command",
             Why::NoMachine => "no such machine",
             Why::NoRail(_) => "no such rail",
+            Why::NoHall(_) => "no such hall",
             Why::NoState(_) => "no such state",
             Why::CartForm => "a cart's state is written PLACE,SPEED",
+            Why::DroneForm => "a drone's state is written X,Y,Z",
+            Why::HallForm => "a drone is written drone:X,Y,Z",
             Why::NotNumbers => "not whole numbers",
             Why::NotCharge => "not a charge from 0 to 65535",
             Why::NoGust => "the machine has no such gust",
@@ -55,12 +64,7 @@ pub enum Fault<'a> {
 pub impl fmt::Display for Fault<'_> as FaultDisplay {
     fn fmt<W: fmt::Write>(&self, f: &mut fmt::Formatter<W>) -> fmt::Result {
         match self {
-            Fault::Usage => {
-                write!(
-                    f,
-                    "usage: mission brake cart:LENGTH PLACE,SPEED [--charge N] [--gusts W,W,..]"
-                )
-            }
+            Fault::Usage => write!(f, "{USAGE}"),
             Fault::Word(why, word) => {
                 let text = why.text();
                 write!(f, "{text}: '{word}'")?;

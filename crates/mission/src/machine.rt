@@ -7,6 +7,7 @@ use std::fmt;
 #[derive(Clone, Copy)]
 pub enum Kind {
     Cart,
+    Drone,
 }
 
 impl Kind {
@@ -16,6 +17,7 @@ impl Kind {
     {
         match self {
             Kind::Cart => 2,
+            Kind::Drone => 3,
         }
     }
 
@@ -23,6 +25,7 @@ impl Kind {
     pub fn form(self) -> Why {
         match self {
             Kind::Cart => Why::CartForm,
+            Kind::Drone => Why::DroneForm,
         }
     }
 }
@@ -36,9 +39,10 @@ pub struct Shown {
 
 pub impl fmt::Display for Shown as ShownDisplay {
     fn fmt<W: fmt::Write>(&self, f: &mut fmt::Formatter<W>) -> fmt::Result {
-        let (x, y, _) = self.numbers;
+        let (x, y, z) = self.numbers;
         match self.kind {
             Kind::Cart => write!(f, "place {x}, speed {y}"),
+            Kind::Drone => write!(f, "cell {x},{y},{z}"),
         }
     }
 }

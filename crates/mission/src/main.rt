@@ -1,10 +1,12 @@
 mod brake;
 mod commands;
 mod fault;
+mod judge;
 mod machine;
 mod options;
 mod words;
 
+use commands::Task;
 use fault::Fault;
 use fault::FaultDisplay;
 use fault::Why;
@@ -14,7 +16,20 @@ use std::error::AnyError;
 fn run<'a>(rt: &LibcRuntime, words: &'a [String]) -> Result<(), Fault<'a>> {
     match words {
         [command, machine, state, options @ ..] => match command.as_str() {
-            "brake" => commands::brake_at(rt, machine.as_str(), state.as_str(), options),
+            "brake" => commands::on_machine(
+                rt,
+                Task::Brake,
+                machine.as_str(),
+                state.as_str(),
+                options,
+            ),
+            "judge" => commands::on_machine(
+                rt,
+                Task::Judge,
+                machine.as_str(),
+                state.as_str(),
+                options,
+            ),
             other => Err(Fault::Word(Why::NoCommand, other)),
         },
         _ => Err(Fault::Usage),

@@ -1,8 +1,9 @@
+use crate::commands::Task;
 use crate::fault::Fault;
 use crate::fault::Why;
 use crate::words;
 
-// What stands after the words of a command: the charge, the full one where none is given, and the gusts.
+// What stands after the words of a command: the charge, the full one where none is given, and the gusts to brake under.
 #[derive(Clone, Copy)]
 pub struct Options<'a> {
     pub charge: u16,
@@ -10,16 +11,16 @@ pub struct Options<'a> {
 }
 
 impl<'a> Options<'a> {
-    fn set(self, name: &'a str, value: &'a str) -> Result<Options<'a>, Fault<'a>> {
-        match name {
-            "--charge" => match words::charge(value) {
+    fn set(self, task: Task, name: &'a str, value: &'a str) -> Result<Options<'a>, Fault<'a>> {
+        match (task, name) {
+            (_, "--charge") => match words::charge(value) {
                 Ok(charge) => Ok(Options {
                     charge,
                     gusts: self.gusts,
                 }),
                 Err(why) => Err(Fault::Word(why, value)),
             },
-            "--gusts" => Ok(Options {
+            (Task::Brake, "--gusts") => Ok(Options {
                 charge: self.charge,
                 gusts: value,
             }),
@@ -28,14 +29,14 @@ impl<'a> Options<'a> {
     }
 }
 
-pub fn read(words: &[String]) -> Result<Options<'_>, Fault<'_>> {
+pub fn read(task: Task, words: &[String]) -> Result<Options<'_>, Fault<'_>> {
     let mut options = Options {
         charge: u16::MAX,
         gusts: "",
     };
     for pair in words.chunks(2) {
         match pair {
-            [name, value] => options = options.set(name.as_str(), value.as_str())?,
+            [name, value] => options = options.set(task, name.as_str(), value.as_str())?,
             [name, ..] => return Err(Fault::Word(Why::NoValue, name.as_str())),
             [] => {}
         }

@@ -25,26 +25,26 @@ pub fn charge(word: &str) -> Result<u16, Why> {
     }
 }
 
-// The three numbers of a state; those that the machine's states are not written with are 0.
-fn numbers(kind: Kind, word: &str) -> Result<(i32, i32, i32), Why> {
+// The numbers of a word such as `900,20`, as many as the width says and at most three; those that are left are 0.
+pub fn numbers(width: usize, form: Why, word: &str) -> Result<(i32, i32, i32), Why> {
     let mut n = [0; 3];
     let mut count = 0;
     for part in word.split(',') {
-        if count >= kind.width() {
-            return Err(kind.form());
+        if count >= width || count >= 3 {
+            return Err(form);
         }
         n[count] = number(part)?;
         count += 1;
     }
-    if count < kind.width() {
-        return Err(kind.form());
+    if count < width {
+        return Err(form);
     }
     Ok((n[0], n[1], n[2]))
 }
 
 // The machine's state of this word.
 pub fn state<G: Guard>(g: &G, kind: Kind, word: &str) -> Result<G::State, Why> {
-    match g.state(numbers(kind, word)?) {
+    match g.state(numbers(kind.width(), kind.form(), word)?) {
         Ok(s) => Ok(s),
         Err(refusal) => Err(Why::NoState(refusal.number())),
     }

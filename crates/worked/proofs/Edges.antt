@@ -9,4 +9,8 @@ edges = record {
   distances = (refl, refl, refl);
   forward = (refl, refl);
   backward = (refl, refl);
+  cart-actions = (refl, refl);
+  cart-calms = (refl, refl, refl, refl);
+  drone-cells = (refl, refl);
+  drone-actions = (refl, refl);
 }

@@ -3,11 +3,13 @@ use mathlib.Core.Path.{_≡_}
 use mathlib.Core.Bool.{Bool, true, false}
 use Prim.Native.Nat.{ℕ}
 use lib.IntN.{ℤ, pos, negsuc}
+use Rattle.guard.specs.Decision.{admissible, calm}
 use Rattle.guard.specs.declared.reading.Reading.{Reading}
-use Rattle.machines.specs.declared.cart.state.CartState.{CartState}
 use Rattle.machines.specs.CartStates.{state-at}
 use Rattle.machines.specs.BrakingDistance.{distance}
 use Rattle.machines.specs.CartMeaning.{cart}
+use Rattle.machines.specs.DroneStates.{cell-at}
+use Rattle.machines.specs.DroneMeaning.{drone}
 
 -- a reading with the full charge
 abbrev pub full : {S : Type 0} → S → Reading S
@@ -17,9 +19,30 @@ full s = record { state = s; charge = 65535 }
 abbrev pub cart-recovers : ℤ → ℤ → Bool
 cart-recovers x v = cart (pos 1000) .recoverable (full (state-at x v))
 
+-- the same of an action's being admissible, and of calm
+abbrev pub cart-admits : ℤ → ℤ → ℕ → Bool
+cart-admits x v a = admissible (cart (pos 1000)) (full (state-at x v)) a
+
+abbrev pub cart-calm : ℤ → ℤ → Bool
+cart-calm x v = calm (cart (pos 1000)) (full (state-at x v))
+
+-- the drone in a hall of 20 by 20 by 10
+abbrev pub drone-recovers : ℤ → ℤ → ℕ → Bool
+drone-recovers x y z = drone (pos 20, pos 20, pos 10) .recoverable (full (cell-at x y z))
+
+abbrev pub drone-admits : ℤ → ℤ → ℕ → ℕ → Bool
+drone-admits x y z a = admissible (drone (pos 20, pos 20, pos 10)) (full (cell-at x y z)) a
+
 pub record Edges : Type 0 where
   -- braking distances
   pub distances : (distance 3 ≡ 1) × (distance 5 ≡ 4) × (distance 40 ≡ 380)
   -- the last recoverable places at speeds 20 and −4
   pub forward : (cart-recovers (pos 910) (pos 20) ≡ true) × (cart-recovers (pos 911) (pos 20) ≡ false)
   pub backward : (cart-recovers (pos 2) (negsuc 3) ≡ true) × (cart-recovers (pos 1) (negsuc 3) ≡ false)
+  -- at place 900 and speed 20, the strongest acceleration that is admissible
+  pub cart-actions : (cart-admits (pos 900) (pos 20) 1 ≡ true) × (cart-admits (pos 900) (pos 20) 2 ≡ false)
+  -- the last calm places at rest
+  pub cart-calms : (cart-calm (pos 994) (pos 0) ≡ true) × (cart-calm (pos 995) (pos 0) ≡ false) × (cart-calm (pos 6) (pos 0) ≡ true) × (cart-calm (pos 5) (pos 0) ≡ false)
+  -- the first recoverable cell at the height 5, and what is admissible there
+  pub drone-cells : (drone-recovers (pos 5) (pos 10) 5 ≡ true) × (drone-recovers (pos 4) (pos 10) 5 ≡ false)
+  pub drone-actions : (drone-admits (pos 5) (pos 10) 5 1 ≡ true) × (drone-admits (pos 5) (pos 10) 5 0 ≡ false)

@@ -3,7 +3,11 @@ ghost use Rattle.worked.specs.Edges.{Edges};
 #[cfg(test)]
 mod carts;
 #[cfg(test)]
+mod drones;
+#[cfg(test)]
 mod regions;
+#[cfg(test)]
+mod rules;
 
 // The worked edges of the rules hold of the definitions that the contracts cite.
 pub fn edges_hold()
