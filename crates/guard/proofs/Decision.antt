@@ -1,24 +1,23 @@
 -- The tests of the decision rule decide what can follow.
 use mathlib.Core.Path.{_≡_, refl, sym, ap, subst, _∙_}
-use mathlib.Core.Bool.{Bool, true, false, not, _&&_}
+use mathlib.Core.Bool.{Bool, true, false, _&&_}
 use mathlib.Core.Logic.{_⊎_, inl, inr}
 use Prim.Native.Nat.{ℕ, _<_, _≤_, _-_}
 use native.Mathlib.Omega.{arith}
 use lib.Dec.{T, ltb, leb}
 use lib.IntN.{ℤ}
 use lib.Signed.{leZ}
-use Rattle.std.specs.Options.{isSome}
 use Rattle.std.specs.Orderings.{Decides}
 use Rattle.std.specs.declared.option.Option.{Option}
-use Rattle.std.specs.declared.option.Option.the-variants.{Some, None}
+use Rattle.std.specs.declared.option.Option.the-variants.{Some}
 use Rattle.std.proofs.shelf.Signed.{ints}
-use Rattle.std.proofs.shelf.Tests.{not-true, not-false, and-parts, and-from, and-cases, ltb-true, ltb-false, lt-ltb, le-leb, leb-true}
+use Rattle.std.proofs.shelf.Tests.{and-parts, and-from, and-cases, ltb-true, ltb-false, lt-ltb, le-leb, leb-true}
 use Rattle.guard.specs.declared.reading.Reading.{Reading}
 use Rattle.guard.specs.Bounded.{each, any}
 use Rattle.guard.specs.Meaning.{Meaning, Laws, Follows, Numbers, lowest-charge, with-charge}
 use Rattle.guard.specs.Driven.{lowest}
-use Rattle.guard.specs.Decision.{admissible, calm, same-number, same-numbers, state-follows, charge-follows, follows, Admits, Endangers, First-danger, Calm}
-use Rattle.guard.proofs.Bounded.{each-at, each-all, each-but, any-at, any-some, told-each}
+use Rattle.guard.specs.Decision.{admissible, calm, same-number, same-numbers, state-follows, charge-follows, follows, Admits, Endangers, Calm}
+use Rattle.guard.proofs.Bounded.{each-at, each-all, each-but, any-at, any-some}
 
 pub T-true : (b : Bool) → T b → b ≡ true
 T-true true t = refl
@@ -50,10 +49,6 @@ same-numbers-eq a b e =
     let y = same-number-eq (a .1) (b .1) (q .1) in
     let z = same-number-eq (a .2) (b .2) (p .1) in
     λ i. (x i, y i, z i)
-
-pub no-danger : {S : Type 0} (m : Meaning S) (r : Reading S) (a : ℕ) (o : Option ℕ) (y : Bool) → First-danger m r a o → isSome o ≡ not y → y ≡ each (m .gusts) (λ w. m .recoverable (lowest m r a w))
-no-danger m r a None y h e = not-false y (sym e) ∙ told-each true (m .gusts) _ h
-no-danger m r a (Some w) y h e = not-true y (sym e) ∙ told-each false (m .gusts) _ (w, h .0, h .1)
 
 module _ {S : Type 0} (m : Meaning S) (laws : Laws m) where
   -- different states have different numbers

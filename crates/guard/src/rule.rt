@@ -3,6 +3,7 @@ ghost use mathlib.Core.Path.{_≡_};
 ghost use lib.Dec.{leb};
 ghost use Prim.Native.Nat.{_<_};
 ghost use Rattle.std.specs.Orderings.{Decides};
+ghost use Rattle.guard.specs.Driven.{lowest as drawn};
 ghost use Rattle.guard.specs.Meaning.{Follows, Numbers};
 ghost use Rattle.guard.specs.Decision.{Tells-each, Tells-some, First-danger, Admits, Endangers, Calm};
 ghost use Rattle.guard.specs.Decision.{admissible as admitted, calm as calmed, same-number, same-numbers, state-follows, charge-follows, follows as followed};
@@ -22,13 +23,22 @@ pub fn endangering_gust<G: Guard>(g: &G, r: Reading<G::State>, a: u8) -> Option<
     None
 }
 
+fn no_gust_endangers<G: Guard>(g: &G, r: Reading<G::State>, a: u8) -> bool
+    ensures { λ y. ⌜ Tells-each y (G·Guard .meaning (now (g .entry)) .gusts) (λ w. G·Guard .meaning (now (g .entry)) .recoverable (drawn (G·Guard .meaning (now (g .entry))) r a w)) ⌝ }
+{
+    match endangering_gust(g, r, a) {
+        None => true,
+        Some(_) => false,
+    }
+}
+
 // Whether the action keeps the machine recoverable, whatever the gust and the draw.
 pub fn admissible<G: Guard>(g: &G, r: Reading<G::State>, a: u8) -> bool
     ensures value { λ y. ⌜ y ≡ admitted (G·Guard .meaning (now (g .entry))) r a ⌝ }
     ensures means { λ y. ⌜ Decides y (Admits (G·Guard .meaning (now (g .entry))) r a) ⌝ }
     ensures danger { λ y. ⌜ (y ≡ false → a < G·Guard .meaning (now (g .entry)) .actions → Endangers (G·Guard .meaning (now (g .entry))) r a) ⌝ }
 {
-    a < g.action_count() && endangering_gust(g, r, a).is_none()
+    a < g.action_count() && no_gust_endangers(g, r, a)
 }
 
 fn each_action_admissible<G: Guard>(g: &G, r: Reading<G::State>) -> bool

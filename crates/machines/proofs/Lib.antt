@@ -2,8 +2,3 @@ pub mod Held
 pub mod Rolling
 pub mod Made
 pub mod Housed
-pub mod CartStates
-pub mod Distances
-pub mod CartLaws
-pub mod DroneStates
-pub mod DroneLaws

@@ -1,11 +1,3 @@
 pub mod Refusals
 pub mod Held
 pub mod Rolling
-pub mod BrakingDistance
-pub mod CartStates
-pub mod CartMeaning
-pub mod CartMaking
-pub mod HallSize
-pub mod DroneStates
-pub mod DroneMeaning
-pub mod DroneMaking

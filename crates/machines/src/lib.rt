@@ -1,3 +1,1 @@
-pub mod cart;
-pub mod drone;
 pub mod making;

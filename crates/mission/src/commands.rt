@@ -7,13 +7,13 @@ use crate::machine::Kind;
 use crate::options;
 use crate::options::Options;
 use crate::words;
+use cart::Cart;
+use cart::guarding::CartGuard;
+use drone::Drone;
+use drone::guarding::DroneGuard;
 use guard::Guard;
 use guard::reading::Reading;
 use guard::refusal::Refusal;
-use machines::cart::Cart;
-use machines::cart::guarding::CartGuard;
-use machines::drone::Drone;
-use machines::drone::guarding::DroneGuard;
 use machines::making::MakingRefusalNumber;
 
 #[derive(Clone, Copy)]

@@ -5,11 +5,11 @@ use Prim.Native.Nat.{ℕ}
 use lib.IntN.{ℤ, pos, negsuc}
 use Rattle.guard.specs.Decision.{admissible, calm}
 use Rattle.guard.specs.declared.reading.Reading.{Reading}
-use Rattle.machines.specs.CartStates.{state-at}
-use Rattle.machines.specs.BrakingDistance.{distance}
-use Rattle.machines.specs.CartMeaning.{cart}
-use Rattle.machines.specs.DroneStates.{cell-at}
-use Rattle.machines.specs.DroneMeaning.{drone}
+use Rattle.cart.specs.States.{state-at}
+use Rattle.cart.specs.BrakingDistance.{distance}
+use Rattle.cart.specs.Meaning.{cart}
+use Rattle.drone.specs.States.{cell-at}
+use Rattle.drone.specs.Meaning.{drone}
 
 -- a reading with the full charge
 abbrev pub full : {S : Type 0} → S → Reading S

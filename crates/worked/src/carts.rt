@@ -1,10 +1,10 @@
+use cart::Cart;
+use cart::guarding::CartGuard;
+use cart::state::CartState;
 use guard::Guard;
 use guard::reading::Reading;
 use guard::refusal::Refusal;
 use guard::refusal::StateRefusalNumber;
-use machines::cart::Cart;
-use machines::cart::guarding::CartGuard;
-use machines::cart::state::CartState;
 use machines::making::MakingRefusalNumber;
 use std::test::*;
 

@@ -1,10 +1,10 @@
+use drone::Drone;
+use drone::guarding::DroneGuard;
+use drone::state::DroneState;
 use guard::Guard;
 use guard::reading::Reading;
 use guard::refusal::Refusal;
 use guard::refusal::StateRefusalNumber;
-use machines::drone::Drone;
-use machines::drone::guarding::DroneGuard;
-use machines::drone::state::DroneState;
 use machines::making::MakingRefusalNumber;
 use std::test::*;
 

@@ -1,9 +1,9 @@
+use cart::Cart;
+use cart::guarding::CartGuard;
+use cart::state::CartState;
 use guard::Guard;
 use guard::reading::Reading;
 use guard::rule;
-use machines::cart::Cart;
-use machines::cart::guarding::CartGuard;
-use machines::cart::state::CartState;
 use std::test::*;
 
 fn cart(length: i32) -> Result<Cart, Fail> {

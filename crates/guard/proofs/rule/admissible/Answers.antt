@@ -7,7 +7,9 @@ use lib.Dec.{ltb}
 use Rattle.std.proofs.shelf.Tests.{lt-ltb}
 use Rattle.std.proofs.shelf.Ways.{decides-at}
 use Rattle.guard.specs.Decision.{admissible}
-use Rattle.guard.proofs.Decision.{decides-admissible, endangers, no-danger}
+use Rattle.guard.specs.Driven.{lowest}
+use Rattle.guard.proofs.Bounded.{told-each}
+use Rattle.guard.proofs.Decision.{decides-admissible, endangers}
 use Rattle.guard.proofs.rule.admissible.Needs as need
 
 pub returns-then-a-action-count : need.returns-then-a-action-count
@@ -17,9 +19,9 @@ returns-then-a-action-count g c =
     let r = c .args .r in
     let a = c .args .a in
     let h : a < m .actions = omega arith in
-    let told = no-danger m r a (c .endangering-gust .result) (c .is-none .result) (c .endangering-gust .ensures) (c .is-none .ensures) in
+    let told = told-each (c .no-gust-endangers .result) (m .gusts) (λ w. m .recoverable (lowest m r a w)) (c .no-gust-endangers .ensures) in
     let below = lt-ltb a (m .actions) h in
-    let e : c .is-none .result ≡ admissible m r a = rw below told in
+    let e : c .no-gust-endangers .result ≡ admissible m r a = rw below told in
     record { value = e; means = decides-at _ _ e (decides-admissible m laws r a); danger = λ f. endangers m laws r a (sym e ∙ f) }
 
 pub returns-else-a-action-count : need.returns-else-a-action-count

@@ -1,0 +1,3 @@
+pub mod BrakingDistance
+pub mod States
+pub mod Laws

@@ -1,0 +1,4 @@
+pub mod BrakingDistance
+pub mod States
+pub mod Meaning
+pub mod Making

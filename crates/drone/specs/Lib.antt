@@ -1,0 +1,4 @@
+pub mod HallSize
+pub mod States
+pub mod Meaning
+pub mod Making
