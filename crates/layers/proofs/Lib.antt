@@ -1,0 +1,4 @@
+pub mod Layered
+pub mod Regions
+pub mod Fenced
+pub mod Reserved

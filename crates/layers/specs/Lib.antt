@@ -1,0 +1,5 @@
+pub mod Layer
+pub mod Fence
+pub mod Battery
+pub mod Refusals
+pub mod Drafts

@@ -1,0 +1,3 @@
+pub mod battery;
+pub mod draft;
+pub mod fence;
