@@ -3,6 +3,8 @@ use crate::fault::Fault;
 use crate::fault::FaultFromIo;
 use crate::fault::Why;
 use crate::judge;
+use crate::layer;
+use crate::layer::Layer;
 use crate::machine::Kind;
 use crate::options;
 use crate::options::Options;
@@ -14,12 +16,24 @@ use drone::guarding::DroneGuard;
 use guard::Guard;
 use guard::reading::Reading;
 use guard::refusal::Refusal;
+use layers::battery::Battery;
+use layers::battery::BatteryGuard;
+use layers::fence::FenceGuard;
 use machines::making::MakingRefusalNumber;
 
 #[derive(Clone, Copy)]
 pub enum Task {
     Brake,
     Judge,
+}
+
+// What a command asks of a guard at a state.
+#[derive(Clone, Copy)]
+struct Work<'a> {
+    task: Task,
+    kind: Kind,
+    charge: u16,
+    gusts: &'a str,
 }
 
 fn cart(length: &str) -> Result<Cart, Why> {
@@ -30,32 +44,29 @@ fn cart(length: &str) -> Result<Cart, Why> {
 }
 
 fn drone(size: &str) -> Result<Drone, Why> {
-    let (x, y, z) = words::numbers(3, Why::HallForm, size)?;
-    match Drone::new(x, y, z) {
+    let n = words::numbers(3, Why::HallForm, size)?;
+    match Drone::new(n[0], n[1], n[2]) {
         Ok(drone) => Ok(drone),
         Err(refusal) => Err(Why::NoHall(refusal.number())),
     }
 }
 
-// Carries the task out on any guard.
 fn carry_out<'a, G: Guard>(
     rt: &LibcRuntime,
-    task: Task,
-    kind: Kind,
     g: &G,
     word: &'a str,
-    given: Options<'a>,
+    job: Work<'a>,
 ) -> Result<(), Fault<'a>> {
-    let gusts = words::gusts(rt.alloc(), g.gust_count(), given.gusts)?;
-    match words::state(g, kind, word) {
+    let gusts = words::gusts(rt.alloc(), g.gust_count(), job.gusts)?;
+    match words::state(g, job.kind, word) {
         Ok(state) => {
             let r = Reading {
                 state,
-                charge: given.charge,
+                charge: job.charge,
             };
-            match task {
-                Task::Brake => brake::brake(rt, kind, g, r, gusts.as_slice())?,
-                Task::Judge => judge::judge(rt, kind, g, r)?,
+            match job.task {
+                Task::Brake => brake::brake(rt, job.kind, g, r, gusts.as_slice())?,
+                Task::Judge => judge::judge(rt, job.kind, g, r)?,
             }
             Ok(())
         }
@@ -63,24 +74,134 @@ fn carry_out<'a, G: Guard>(
     }
 }
 
-// `mission brake MACHINE STATE ..` and `mission judge MACHINE STATE ..`
-pub fn on_machine<'a>(
+// Under no further layer.
+fn bare<'a, G: Guard + Drop>(
+    rt: &LibcRuntime,
+    g: G,
+    layers: &'a [String],
+    state: &'a str,
+    job: Work<'a>,
+) -> Result<(), Fault<'a>> {
+    match layers {
+        [] => carry_out(rt, &g, state, job),
+        [word, ..] => Err(Fault::Word(Why::ManyLayers, word.as_str())),
+    }
+}
+
+// Under the first of the layers, and then under those that are left; at most one in all.
+fn one<'a, G: Guard + Drop>(
+    rt: &LibcRuntime,
+    g: G,
+    layers: &'a [String],
+    state: &'a str,
+    job: Work<'a>,
+) -> Result<(), Fault<'a>> {
+    match layers {
+        [] => carry_out(rt, &g, state, job),
+        [word, rest @ ..] => match layer::read(word.as_str()) {
+            Ok(layer) => match layer {
+                Layer::Fence(draft) => bare(rt, draft.seal(g), rest, state, job),
+                Layer::Battery(reserve) => bare(rt, Battery::new(g, reserve), rest, state, job),
+            },
+            Err(why) => Err(Fault::Word(why, word.as_str())),
+        },
+    }
+}
+
+// The same, at most two.
+fn two<'a, G: Guard + Drop>(
+    rt: &LibcRuntime,
+    g: G,
+    layers: &'a [String],
+    state: &'a str,
+    job: Work<'a>,
+) -> Result<(), Fault<'a>> {
+    match layers {
+        [] => carry_out(rt, &g, state, job),
+        [word, rest @ ..] => match layer::read(word.as_str()) {
+            Ok(layer) => match layer {
+                Layer::Fence(draft) => one(rt, draft.seal(g), rest, state, job),
+                Layer::Battery(reserve) => one(rt, Battery::new(g, reserve), rest, state, job),
+            },
+            Err(why) => Err(Fault::Word(why, word.as_str())),
+        },
+    }
+}
+
+// The same, at most three.
+fn three<'a, G: Guard + Drop>(
+    rt: &LibcRuntime,
+    g: G,
+    layers: &'a [String],
+    state: &'a str,
+    job: Work<'a>,
+) -> Result<(), Fault<'a>> {
+    match layers {
+        [] => carry_out(rt, &g, state, job),
+        [word, rest @ ..] => match layer::read(word.as_str()) {
+            Ok(layer) => match layer {
+                Layer::Fence(draft) => two(rt, draft.seal(g), rest, state, job),
+                Layer::Battery(reserve) => two(rt, Battery::new(g, reserve), rest, state, job),
+            },
+            Err(why) => Err(Fault::Word(why, word.as_str())),
+        },
+    }
+}
+
+fn job(task: Task, kind: Kind, given: Options<'_>) -> Work<'_> {
+    Work {
+        task,
+        kind,
+        charge: given.charge,
+        gusts: given.gusts,
+    }
+}
+
+fn on_machine<'a>(
     rt: &LibcRuntime,
     task: Task,
     machine: &'a str,
+    layers: &'a [String],
     state: &'a str,
-    rest: &'a [String],
+    given: Options<'a>,
 ) -> Result<(), Fault<'a>> {
-    let given = options::read(task, rest)?;
     match machine.split_once(':') {
         Some(("cart", length)) => match cart(length) {
-            Ok(cart) => carry_out(rt, task, Kind::Cart, &cart, state, given),
+            Ok(cart) => three(rt, cart, layers, state, job(task, Kind::Cart, given)),
             Err(why) => Err(Fault::Word(why, machine)),
         },
         Some(("drone", size)) => match drone(size) {
-            Ok(drone) => carry_out(rt, task, Kind::Drone, &drone, state, given),
+            Ok(drone) => three(rt, drone, layers, state, job(task, Kind::Drone, given)),
             Err(why) => Err(Fault::Word(why, machine)),
         },
         _ => Err(Fault::Word(Why::NoMachine, machine)),
     }
+}
+
+fn at_places<'a>(
+    rt: &LibcRuntime,
+    task: Task,
+    places: &'a [String],
+    given: Options<'a>,
+) -> Result<(), Fault<'a>> {
+    let n = places.len();
+    if n < 2 {
+        return Err(Fault::Usage);
+    }
+    let layers = &places[1..n - 1];
+    on_machine(
+        rt,
+        task,
+        places[0].as_str(),
+        layers,
+        places[n - 1].as_str(),
+        given,
+    )
+}
+
+// `mission TASK MACHINE LAYER.. STATE OPTION..`
+pub fn run<'a>(rt: &LibcRuntime, task: Task, words: &'a [String]) -> Result<(), Fault<'a>> {
+    let n = options::first(words);
+    let given = options::read(task, &words[n..])?;
+    at_places(rt, task, &words[0..n], given)
 }

@@ -4,7 +4,7 @@ use std::fmt;
 use std::io;
 
 const USAGE: &str =
-    "usage: mission brake|judge cart:LENGTH|drone:X,Y,Z STATE [--charge N] [--gusts W,W,..]";
+    "usage: mission brake|judge cart:LENGTH|drone:X,Y,Z [fence:REGION+..|battery:RESERVE].. STATE [--charge N] [--gusts W,W,..]";
 
 // What is wrong with a word. Where the library refuses it, the number of the refusal.
 #[derive(Clone, Copy)]
@@ -17,6 +17,11 @@ pub enum Why {
     CartForm,
     DroneForm,
     HallForm,
+    NoLayer,
+    ManyLayers,
+    RegionForm,
+    NoRegion(u8),
+    NotReserve,
     NotNumbers,
     NotCharge,
     NoGust,
@@ -28,7 +33,7 @@ impl Why {
     // The number under which the library refuses the word.
     fn refusal(self) -> Option<u8> {
         match self {
-            Why::NoRail(number) | Why::NoHall(number) | Why::NoState(number) => Some(number),
+            Why::NoRail(n) | Why::NoHall(n) | Why::NoState(n) | Why::NoRegion(n) => Some(n),
             _ => None,
         }
     }
@@ -43,6 +48,11 @@ impl Why {
             Why::CartForm => "a cart's state is written PLACE,SPEED",
             Why::DroneForm => "a drone's state is written X,Y,Z",
             Why::HallForm => "a drone is written drone:X,Y,Z",
+            Why::NoLayer => "no such layer",
+            Why::ManyLayers => "more than three layers",
+            Why::RegionForm => "a fence is written fence:X,Y,Z,X,Y,Z+..",
+            Why::NoRegion(_) => "not a region that can be added",
+            Why::NotReserve => "not a reserve from 0 to 65535",
             Why::NotNumbers => "not whole numbers",
             Why::NotCharge => "not a charge from 0 to 65535",
             Why::NoGust => "the machine has no such gust",

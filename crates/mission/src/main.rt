@@ -2,6 +2,7 @@ mod brake;
 mod commands;
 mod fault;
 mod judge;
+mod layer;
 mod machine;
 mod options;
 mod words;
@@ -15,24 +16,12 @@ use std::error::AnyError;
 
 fn run<'a>(rt: &LibcRuntime, words: &'a [String]) -> Result<(), Fault<'a>> {
     match words {
-        [command, machine, state, options @ ..] => match command.as_str() {
-            "brake" => commands::on_machine(
-                rt,
-                Task::Brake,
-                machine.as_str(),
-                state.as_str(),
-                options,
-            ),
-            "judge" => commands::on_machine(
-                rt,
-                Task::Judge,
-                machine.as_str(),
-                state.as_str(),
-                options,
-            ),
+        [command, rest @ ..] => match command.as_str() {
+            "brake" => commands::run(rt, Task::Brake, rest),
+            "judge" => commands::run(rt, Task::Judge, rest),
             other => Err(Fault::Word(Why::NoCommand, other)),
         },
-        _ => Err(Fault::Usage),
+        [] => Err(Fault::Usage),
     }
 }
 

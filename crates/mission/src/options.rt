@@ -1,3 +1,5 @@
+ghost use Prim.Native.Nat.{_≤_};
+ghost use lib.ListN.{length};
 use crate::commands::Task;
 use crate::fault::Fault;
 use crate::fault::Why;
@@ -27,6 +29,18 @@ impl<'a> Options<'a> {
             _ => Err(Fault::Word(Why::NoOption, name)),
         }
     }
+}
+
+// Where the options begin.
+pub fn first(words: &[String]) -> usize
+    ensures { λ r. ⌜ r ≤ length (now (words .entry)) ⌝ }
+{
+    for (i, word) in words.iter().enumerate() {
+        if word.as_str().starts_with("--") {
+            return i;
+        }
+    }
+    words.len()
 }
 
 pub fn read(task: Task, words: &[String]) -> Result<Options<'_>, Fault<'_>> {

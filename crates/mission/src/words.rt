@@ -25,26 +25,27 @@ pub fn charge(word: &str) -> Result<u16, Why> {
     }
 }
 
-// The numbers of a word such as `900,20`, as many as the width says and at most three; those that are left are 0.
-pub fn numbers(width: usize, form: Why, word: &str) -> Result<(i32, i32, i32), Why> {
-    let mut n = [0; 3];
-    let mut count = 0;
+// The numbers of a word such as `900,20`, as many as the count says and at most six; those that are left are 0.
+pub fn numbers(count: usize, form: Why, word: &str) -> Result<[i32; 6], Why> {
+    let mut n = [0; 6];
+    let mut next = 0;
     for part in word.split(',') {
-        if count >= width || count >= 3 {
+        if next >= count || next >= 6 {
             return Err(form);
         }
-        n[count] = number(part)?;
-        count += 1;
+        n[next] = number(part)?;
+        next += 1;
     }
-    if count < width {
+    if next < count {
         return Err(form);
     }
-    Ok((n[0], n[1], n[2]))
+    Ok(n)
 }
 
 // The machine's state of this word.
 pub fn state<G: Guard>(g: &G, kind: Kind, word: &str) -> Result<G::State, Why> {
-    match g.state(numbers(kind.width(), kind.form(), word)?) {
+    let n = numbers(kind.width(), kind.form(), word)?;
+    match g.state((n[0], n[1], n[2])) {
         Ok(s) => Ok(s),
         Err(refusal) => Err(Why::NoState(refusal.number())),
     }

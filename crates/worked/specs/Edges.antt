@@ -1,10 +1,14 @@
 -- Worked edges of the rules.
 use mathlib.Core.Path.{_≡_}
 use mathlib.Core.Bool.{Bool, true, false}
+use mathlib.Core.List.{[], _∷_}
 use Prim.Native.Nat.{ℕ}
 use lib.IntN.{ℤ, pos, negsuc}
 use Rattle.guard.specs.Decision.{admissible, calm}
 use Rattle.guard.specs.declared.reading.Reading.{Reading}
+use Rattle.layers.specs.Fence.{fenced}
+use Rattle.layers.specs.Battery.{reserved}
+use Rattle.cart.specs.declared.state.CartState.{CartState}
 use Rattle.cart.specs.States.{state-at}
 use Rattle.cart.specs.BrakingDistance.{distance}
 use Rattle.cart.specs.Meaning.{cart}
@@ -33,6 +37,22 @@ drone-recovers x y z = drone (pos 20, pos 20, pos 10) .recoverable (full (cell-a
 abbrev pub drone-admits : ℤ → ℤ → ℕ → ℕ → Bool
 drone-admits x y z a = admissible (drone (pos 20, pos 20, pos 10)) (full (cell-at x y z)) a
 
+-- the same drone behind a fence of one region, from low to high along x, over the whole width of the ground
+abbrev pub fenced-recovers : ℤ → ℤ → Bool
+fenced-recovers low high =
+    fenced (record { low = record { x = low; y = pos 0; z = pos 0 }; high = record { x = high; y = pos 20; z = pos 0 } } ∷ []) (drone (pos 20, pos 20, pos 10))
+    .recoverable (full (cell-at (pos 5) (pos 10) 5))
+
+-- the cart with a reserve of 10, at place 900 with speed 20 and the given charge
+abbrev pub charged : ℕ → Reading CartState
+charged q = record { state = state-at (pos 900) (pos 20); charge = q }
+
+abbrev pub reserved-recovers : ℕ → Bool
+reserved-recovers q = reserved 10 (cart (pos 1000)) .recoverable (charged q)
+
+abbrev pub reserved-admits : ℕ → Bool
+reserved-admits q = admissible (reserved 10 (cart (pos 1000))) (charged q) 1
+
 pub record Edges : Type 0 where
   -- braking distances
   pub distances : (distance 3 ≡ 1) × (distance 5 ≡ 4) × (distance 40 ≡ 380)
@@ -46,3 +66,7 @@ pub record Edges : Type 0 where
   -- the first recoverable cell at the height 5, and what is admissible there
   pub drone-cells : (drone-recovers (pos 5) (pos 10) 5 ≡ true) × (drone-recovers (pos 4) (pos 10) 5 ≡ false)
   pub drone-actions : (drone-admits (pos 5) (pos 10) 5 1 ≡ true) × (drone-admits (pos 5) (pos 10) 5 0 ≡ false)
+  -- a fence on the ground under the drone's cover, and one just beyond it
+  pub fences : (fenced-recovers (pos 8) (pos 9) ≡ false) × (fenced-recovers (pos 11) (pos 12) ≡ true)
+  -- the least charge that is recoverable with the reserve, and the least with which action 1 is admissible
+  pub batteries : (reserved-recovers 20 ≡ true) × (reserved-recovers 19 ≡ false) × (reserved-admits 23 ≡ true) × (reserved-admits 22 ≡ false)
