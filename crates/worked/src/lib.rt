@@ -8,6 +8,9 @@ mod drones;
 mod regions;
 #[cfg(test)]
 mod rules;
+pub mod sealing;
+#[cfg(test)]
+mod stacks;
 
 // The worked edges of the rules hold of the definitions that the contracts cite.
 pub fn edges_hold()
