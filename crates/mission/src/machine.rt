@@ -1,5 +1,5 @@
 ghost use mathlib.Core.Path.{_≡_};
-ghost use Rattle.mission.specs.Kinds.{width as places};
+ghost use Rattle.mission.specs.Kinds.{width as places, form as misformed};
 use crate::fault::Why;
 use std::fmt;
 
@@ -22,7 +22,9 @@ impl Kind {
     }
 
     // What is wrong with a state that is written with more numbers or fewer.
-    pub fn form(self) -> Why {
+    pub fn form(self) -> Why
+        ensures { λ r. ⌜ r ≡ misformed self ⌝ }
+    {
         match self {
             Kind::Cart => Why::CartForm,
             Kind::Drone => Why::DroneForm,

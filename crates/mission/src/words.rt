@@ -1,6 +1,9 @@
 ghost use Prim.Native.Nat.{_<_};
 ghost use Rattle.std.specs.Of.Vec.{vec-items};
-ghost use Rattle.std.specs.Vec.{made};
+ghost use Rattle.std.specs.Vec.{made, refused};
+ghost use Rattle.mission.specs.declared.fault.Why.the-variants.{NotNumbers, NotCharge};
+ghost use mathlib.Core.Logic.{_⊎_};
+ghost use mathlib.Core.Path.{_≡_};
 ghost use Rattle.std.specs.shelf.Lists.{All};
 use crate::fault::Fault;
 use crate::fault::FaultFromRefused;
@@ -11,14 +14,18 @@ use guard::refusal::Refusal;
 use guard::refusal::StateRefusalNumber;
 use std::alloc::Global;
 
-pub fn number(word: &str) -> Result<i32, Why> {
+pub fn number(word: &str) -> Result<i32, Why>
+    ensures { λ r. ⌜ refused r (λ e. e ≡ NotNumbers) ⌝ }
+{
     match word.parse::<i32>() {
         Ok(n) => Ok(n),
         Err(_) => Err(Why::NotNumbers),
     }
 }
 
-pub fn charge(word: &str) -> Result<u16, Why> {
+pub fn charge(word: &str) -> Result<u16, Why>
+    ensures { λ r. ⌜ refused r (λ e. e ≡ NotCharge) ⌝ }
+{
     match word.parse::<u16>() {
         Ok(n) => Ok(n),
         Err(_) => Err(Why::NotCharge),
@@ -26,7 +33,9 @@ pub fn charge(word: &str) -> Result<u16, Why> {
 }
 
 // The numbers of a word such as `900,20`, as many as the count says and at most six; those that are left are 0.
-pub fn numbers(count: usize, form: Why, word: &str) -> Result<[i32; 6], Why> {
+pub fn numbers(count: usize, form: Why, word: &str) -> Result<[i32; 6], Why>
+    ensures { λ r. ⌜ refused r (λ e. (e ≡ form) ⊎ (e ≡ NotNumbers)) ⌝ }
+{
     let mut n = [0; 6];
     let mut next = 0;
     for part in word.split(',') {
