@@ -1,0 +1,4 @@
+pub mod Refusals
+pub mod History
+pub mod Due
+pub mod Findings
