@@ -13,7 +13,7 @@ use Rattle.guard.specs.declared.reading.Reading.{Reading}
 use Rattle.guard.specs.Meaning.{Meaning, Follows, Laws}
 use Rattle.guard.specs.Decision.{calm, Endangers}
 use Rattle.guard.proofs.Decision.{T-true, true-T, decides-admissible, decides-calm, decides-follows, endangers}
-use Rattle.history.specs.History.{Event, History, Phase, parked, ready, granted, moving, closed, phase, accepted, reads, last, tick, gains, loses, planner, out, grant, given, spent, won, lost}
+use Rattle.history.specs.History.{Event, History, Stage, parked, ready, granted, moving, closed, stage, accepted, reads, last, tick, gains, loses, planner, out, grant, given, spent, won, lost}
 use Rattle.history.specs.Due.{due, Right}
 use Rattle.history.specs.Findings.{Throughout, Accepts, Grants, Granted-since, Decided, Sound, Totalled, one-if, Findings}
 use Rattle.history.specs.declared.calls.Ticket.{Ticket}
@@ -34,14 +34,14 @@ abbrev Allowed : {S : Type 0} → Meaning S → Reading S → ℕ → Type 0
 Allowed {S} m r a = (t : Reading S) → Follows m r a t → T (m .recoverable t)
 
 -- a grant is out or being carried out
-abbrev Busy : Phase → Type 0
+abbrev Busy : Stage → Type 0
 Busy parked = ⊥
 Busy ready = ⊥
 Busy granted = Unit {0}
 Busy moving = Unit {0}
 Busy closed = ⊥
 
-abbrev outs : Phase → Bool
+abbrev outs : Stage → Bool
 outs parked = false
 outs ready = false
 outs granted = true
@@ -52,8 +52,8 @@ outs closed = false
 record Kept {S : Type 0} (m : Meaning S) (h : History S) : Type 0 where
   seen : (r : Reading S) → last h ≡ Some r → T (m .recoverable r)
   since : (r : Reading S) (a : ℕ) → last h ≡ Some r → Granted-since a h → Allowed m r a
-  busy : (r : Reading S) (g : Ticket) → Busy (phase h) → last h ≡ Some r → grant h ≡ Some g → Allowed m r (g .action)
-  out-is : out h ≡ outs (phase h)
+  busy : (r : Reading S) (g : Ticket) → Busy (stage h) → last h ≡ Some r → grant h ≡ Some g → Allowed m r (g .action)
+  out-is : out h ≡ outs (stage h)
   grants : given h ≡ spent h + one-if (out h)
   turns : won h ≡ lost h + one-if (planner h)
 
@@ -195,7 +195,7 @@ module _ {S : Type 0} (m : Meaning S) (laws : Laws m) (mission : ℕ) where
   told-stamped : {h : History S} {c : Call S} {t : Ticket} → Told m mission h c (Granted t) → (t .mission ≡ mission) × (t .tick ≡ tick h) × (tick h < 1000000)
   told-stamped (decided r s e i n f c) = (i, n, f)
 
-  told-spent : {h : History S} {t : Ticket} {a : ℕ} → Told m mission h (Spend t) (Spent a) → (phase h ≡ granted) × (grant h ≡ Some t) × (a ≡ t .action)
+  told-spent : {h : History S} {t : Ticket} {a : ℕ} → Told m mission h (Spend t) (Spent a) → (stage h ≡ granted) × (grant h ≡ Some t) × (a ≡ t .action)
   told-spent (done s g i) = (s, g, i)
 
   told-over : {h : History S} {c : Call S} → Told m mission h c (Refused MissionOver) → 1000000 ≤ tick h

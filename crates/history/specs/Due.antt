@@ -9,7 +9,7 @@ use Rattle.std.specs.declared.option.Option.the-variants.{Some, None}
 use Rattle.guard.specs.declared.reading.Reading.{Reading}
 use Rattle.guard.specs.Meaning.{Meaning}
 use Rattle.guard.specs.Decision.{admissible, calm, state-follows, charge-follows}
-use Rattle.history.specs.History.{Event, History, Phase, parked, ready, granted, moving, closed, phase, last, tick, planner, grant, given, spent, won, lost}
+use Rattle.history.specs.History.{Event, History, Stage, parked, ready, granted, moving, closed, stage, last, tick, planner, grant, given, spent, won, lost}
 use Rattle.history.specs.declared.calls.Ticket.{Ticket}
 use Rattle.history.specs.declared.calls.Call.{Call}
 use Rattle.history.specs.declared.calls.Call.the-variants.{Begin, Decide, Spend, Observe, Close}
@@ -18,7 +18,7 @@ use Rattle.history.specs.declared.calls.Answer.the-variants.{Accepted, Granted
 use Rattle.history.specs.declared.calls.CallRefusal.the-variants.{WrongPhase, NotRecoverable, OtherGrant, StateCannotFollow, ChargeCannotFollow, MissionOver}
 
 -- Which calls have a place in which phase.
-abbrev pub has-place : {S : Type 0} → Phase → Call S → Bool
+abbrev pub has-place : {S : Type 0} → Stage → Call S → Bool
 has-place parked c = elim c [ Begin r ↦ true | Decide b ↦ false | Spend t ↦ false | Observe r ↦ false | Close ↦ false ]
 has-place ready c = elim c [ Begin r ↦ false | Decide b ↦ true | Spend t ↦ false | Observe r ↦ false | Close ↦ true ]
 has-place granted c = elim c [ Begin r ↦ false | Decide b ↦ false | Spend t ↦ true | Observe r ↦ false | Close ↦ false ]
@@ -33,7 +33,7 @@ choice m false r b = cond (ltb b (m .actions) && calm m r) (b, 3) (m .fallback (
 abbrev pub same-ticket : Ticket → Ticket → Bool
 same-ticket t u = (eqb (t .mission) (u .mission) && eqb (t .tick) (u .tick)) && (eqb (t .action) (u .action) && eqb (t .reason) (u .reason))
 
--- Where there is a last reading or a last grant, what is due of it. In a phase that needs one, there is one.
+-- Where there is a last reading or a last grant, what is due of it. In a stage that needs one, there is one.
 abbrev pub of-reading : {S : Type 0} → Option (Reading S) → (Reading S → Answer) → Answer
 of-reading None f = Refused WrongPhase
 of-reading (Some r) f = f r
@@ -60,7 +60,7 @@ module _ {S : Type 0} (m : Meaning S) (mission : ℕ) where
   in-place h Close = Ended (record { tick = tick h; given = given h; spent = spent h; gains = won h; losses = lost h })
 
   abbrev pub due : History S → Call S → Answer
-  due h c = cond (has-place (phase h) c) (in-place h c) (Refused WrongPhase)
+  due h c = cond (has-place (stage h) c) (in-place h c) (Refused WrongPhase)
 
   -- each answer of the history is the one that is due
   abbrev pub Right : History S → Type 0

@@ -28,24 +28,24 @@ accepted (Spent a) = true
 accepted (Ended e) = true
 accepted (Refused r) = false
 
--- The phase, by the last accepted call.
-pub data Phase : Type 0 where
-  parked : Phase
-  ready : Phase
-  granted : Phase
-  moving : Phase
-  closed : Phase
+-- The phase that the last accepted call led to.
+pub data Stage : Type 0 where
+  parked : Stage
+  ready : Stage
+  granted : Stage
+  moving : Stage
+  closed : Stage
 
-abbrev pub leads : {S : Type 0} → Call S → Phase
+abbrev pub leads : {S : Type 0} → Call S → Stage
 leads (Begin r) = ready
 leads (Decide b) = granted
 leads (Spend t) = moving
 leads (Observe r) = ready
 leads Close = closed
 
-abbrev pub phase : {S : Type 0} → History S → Phase
-phase [] = parked
-phase (e ∷ h) = cond (accepted (e .answer)) (leads (e .call)) (phase h)
+abbrev pub stage : {S : Type 0} → History S → Stage
+stage [] = parked
+stage (e ∷ h) = cond (accepted (e .answer)) (leads (e .call)) (stage h)
 
 -- The last accepted reading: that of a begin or an observe.
 abbrev pub reads : {S : Type 0} → Call S → Option (Reading S) → Option (Reading S)

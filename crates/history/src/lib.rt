@@ -5,6 +5,7 @@ ghost use Rattle.history.specs.History.{History};
 use guard::Guard;
 
 pub mod calls;
+pub mod phase;
 
 // Whatever the guard, the findings hold of every history in which each answer is the one that is due.
 pub fn findings_hold<G: Guard>(guard: &G)
