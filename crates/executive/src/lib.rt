@@ -1,0 +1,4 @@
+pub mod calls;
+pub mod grant;
+pub mod held;
+mod step;
