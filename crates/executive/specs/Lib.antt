@@ -1,4 +1,6 @@
 pub mod Counts
 pub mod Grants
 pub mod Holding
+pub mod Making
 pub mod Took
+pub mod Replay

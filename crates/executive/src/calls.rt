@@ -1,5 +1,6 @@
 ghost use mathlib.Core.Path.{_≡_};
 ghost use Rattle.executive.specs.Grants.{ticket-of};
+ghost use Rattle.executive.specs.Making.{Made};
 ghost use Rattle.executive.specs.Took.{Took, Own, Back, accepting, deciding, spending, ending};
 use crate::grant::Grant;
 use crate::grant::Returned;
@@ -12,6 +13,13 @@ use history::calls::CallRefusal;
 use history::calls::Totals;
 
 impl<G: Guard> Executive<G> {
+    // An executive over the guard, which it takes over.
+    pub fn new(guard: G, mission: u32) -> Executive<G>
+        ensures { λ r. ⌜ Made (G·Guard .meaning guard) guard mission r ⌝ }
+    {
+        Executive::fresh(guard, mission)
+    }
+
     // A call of any kind.
     pub(crate) fn take(&mut self, call: Call<G::State>) -> Answer
         ensures took { λ y. ⌜ Took (G·Guard .meaning (now (self .entry) .guard)) call y (now (self .entry)) (now (self .exit)) ⌝ }

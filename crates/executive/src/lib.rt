@@ -1,4 +1,5 @@
 pub mod calls;
 pub mod grant;
 pub mod held;
+pub mod replay;
 mod step;

@@ -70,8 +70,8 @@ fn same_ticket(t: Ticket, u: Ticket) -> bool
 }
 
 impl<G: Guard> Executive<G> {
-    // An executive over the guard, which it takes over.
-    pub fn new(guard: G, mission: u32) -> Executive<G>
+    // Parked, with the keeper in control, no reading, and every count 0.
+    pub(crate) fn fresh(guard: G, mission: u32) -> Executive<G>
         ensures held { λ r. ⌜ held r ≡ unused ⌝ }
         ensures guard { λ r. ⌜ r .guard ≡ guard ⌝ }
         ensures mission { λ r. ⌜ r .mission ≡ mission ⌝ }
