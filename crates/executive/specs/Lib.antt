@@ -4,3 +4,4 @@ pub mod Holding
 pub mod Making
 pub mod Took
 pub mod Replay
+pub mod View

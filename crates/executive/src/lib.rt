@@ -3,3 +3,4 @@ pub mod grant;
 pub mod held;
 pub mod replay;
 mod step;
+pub mod view;

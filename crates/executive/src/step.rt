@@ -97,9 +97,10 @@ impl<G: Guard> Executive<G> {
         ensures mission { λ t. ⌜ now (self .exit) .mission ≡ now (self .entry) .mission ⌝ }
     {
         let choice = choose(&self.guard, self.planner, r, b);
+        let tick = self.tick;
         let grant = Ticket {
             mission: self.mission,
-            tick: self.tick,
+            tick,
             action: choice.action,
             reason: choice.reason,
         };

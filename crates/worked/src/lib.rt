@@ -1,5 +1,6 @@
 ghost use Rattle.worked.specs.Edges.{Edges};
 
+pub mod acting;
 #[cfg(test)]
 mod carts;
 #[cfg(test)]
