@@ -6,6 +6,8 @@ mod carts;
 #[cfg(test)]
 mod drones;
 #[cfg(test)]
+mod missions;
+#[cfg(test)]
 mod regions;
 #[cfg(test)]
 mod rules;
