@@ -8,6 +8,7 @@ use crate::layer::Layer;
 use crate::machine::Kind;
 use crate::options;
 use crate::options::Options;
+use crate::script;
 use crate::words;
 use cart::Cart;
 use cart::guarding::CartGuard;
@@ -20,11 +21,14 @@ use layers::battery::Battery;
 use layers::battery::BatteryGuard;
 use layers::fence::FenceGuard;
 use machines::making::MakingRefusalNumber;
+use std::fs;
+use std::io;
 
 #[derive(Clone, Copy)]
 pub enum Task {
     Brake,
     Judge,
+    Calls,
 }
 
 // What a command asks of a guard at a state.
@@ -33,6 +37,7 @@ struct Work<'a> {
     task: Task,
     kind: Kind,
     charge: u16,
+    mission: u32,
     gusts: &'a str,
 }
 
@@ -51,7 +56,7 @@ fn drone(size: &str) -> Result<Drone, Why> {
     }
 }
 
-fn carry_out<'a, G: Guard>(
+fn at_state<'a, G: Guard>(
     rt: &LibcRuntime,
     g: &G,
     word: &'a str,
@@ -66,11 +71,36 @@ fn carry_out<'a, G: Guard>(
             };
             match job.task {
                 Task::Brake => brake::brake(rt, job.kind, g, r, gusts.as_slice())?,
-                Task::Judge => judge::judge(rt, job.kind, g, r)?,
+                _ => judge::judge(rt, job.kind, g, r)?,
             }
             Ok(())
         }
         Err(why) => Err(Fault::Word(why, word)),
+    }
+}
+
+// The text of a file, or of standard input where the word is `-`.
+fn text(rt: &LibcRuntime, word: &str) -> io::Result<String> {
+    if word == "-" {
+        io::read_to_string(rt.alloc(), rt.stdin())
+    } else {
+        fs::read_to_string(rt, word)
+    }
+}
+
+// What the task asks of a guard, at the state or with the script that the word names.
+fn carry_out<'a, G: Guard + Drop>(
+    rt: &LibcRuntime,
+    g: G,
+    word: &'a str,
+    job: Work<'a>,
+) -> Result<(), Fault<'a>> {
+    match job.task {
+        Task::Calls => match text(rt, word) {
+            Ok(text) => script::run(rt, g, job.mission, text.as_str()),
+            Err(_) => Err(Fault::Word(Why::NoFile, word)),
+        },
+        _ => at_state(rt, &g, word, job),
     }
 }
 
@@ -83,7 +113,7 @@ fn bare<'a, G: Guard + Drop>(
     job: Work<'a>,
 ) -> Result<(), Fault<'a>> {
     match layers {
-        [] => carry_out(rt, &g, state, job),
+        [] => carry_out(rt, g, state, job),
         [word, ..] => Err(Fault::Word(Why::ManyLayers, word.as_str())),
     }
 }
@@ -97,7 +127,7 @@ fn one<'a, G: Guard + Drop>(
     job: Work<'a>,
 ) -> Result<(), Fault<'a>> {
     match layers {
-        [] => carry_out(rt, &g, state, job),
+        [] => carry_out(rt, g, state, job),
         [word, rest @ ..] => match layer::read(word.as_str()) {
             Ok(layer) => match layer {
                 Layer::Fence(draft) => bare(rt, draft.seal(g), rest, state, job),
@@ -117,7 +147,7 @@ fn two<'a, G: Guard + Drop>(
     job: Work<'a>,
 ) -> Result<(), Fault<'a>> {
     match layers {
-        [] => carry_out(rt, &g, state, job),
+        [] => carry_out(rt, g, state, job),
         [word, rest @ ..] => match layer::read(word.as_str()) {
             Ok(layer) => match layer {
                 Layer::Fence(draft) => one(rt, draft.seal(g), rest, state, job),
@@ -137,7 +167,7 @@ fn three<'a, G: Guard + Drop>(
     job: Work<'a>,
 ) -> Result<(), Fault<'a>> {
     match layers {
-        [] => carry_out(rt, &g, state, job),
+        [] => carry_out(rt, g, state, job),
         [word, rest @ ..] => match layer::read(word.as_str()) {
             Ok(layer) => match layer {
                 Layer::Fence(draft) => two(rt, draft.seal(g), rest, state, job),
@@ -153,6 +183,7 @@ fn job(task: Task, kind: Kind, given: Options<'_>) -> Work<'_> {
         task,
         kind,
         charge: given.charge,
+        mission: given.mission,
         gusts: given.gusts,
     }
 }
@@ -199,9 +230,34 @@ fn at_places<'a>(
     )
 }
 
-// `mission TASK MACHINE LAYER.. STATE OPTION..`
+fn with_script<'a>(
+    rt: &LibcRuntime,
+    places: &'a [String],
+    file: &'a str,
+    given: Options<'a>,
+) -> Result<(), Fault<'a>> {
+    let n = places.len();
+    if n < 1 {
+        return Err(Fault::Usage);
+    }
+    on_machine(
+        rt,
+        Task::Calls,
+        places[0].as_str(),
+        &places[1..n],
+        file,
+        given,
+    )
+}
+
+// `mission TASK MACHINE LAYER.. STATE OPTION..`; a script's name may also stand after the options.
 pub fn run<'a>(rt: &LibcRuntime, task: Task, words: &'a [String]) -> Result<(), Fault<'a>> {
     let n = options::first(words);
+    let end = words.len();
+    if n < end && (end - n) % 2 == 1 && matches!(task, Task::Calls) {
+        let given = options::read(task, &words[n..end - 1])?;
+        return with_script(rt, &words[0..n], words[end - 1].as_str(), given);
+    }
     let given = options::read(task, &words[n..])?;
     at_places(rt, task, &words[0..n], given)
 }

@@ -4,7 +4,7 @@ use std::fmt;
 use std::io;
 
 const USAGE: &str =
-    "usage: mission brake|judge cart:LENGTH|drone:X,Y,Z [fence:REGION+..|battery:RESERVE].. STATE [--charge N] [--gusts W,W,..]";
+    "usage: mission brake|judge MACHINE LAYER.. STATE [--charge N] [--gusts W,W,..], or mission calls MACHINE LAYER.. [--mission N] FILE, with cart:LENGTH or drone:X,Y,Z and fence:REGION+.. or battery:RESERVE";
 
 // What is wrong with a word. Where the library refuses it, the number of the refusal.
 #[derive(Clone, Copy)]
@@ -24,6 +24,8 @@ pub enum Why {
     NotReserve,
     NotNumbers,
     NotCharge,
+    NotMission,
+    NoFile,
     NoGust,
     NoOption,
     NoValue,
@@ -55,6 +57,8 @@ impl Why {
             Why::NotReserve => "not a reserve from 0 to 65535",
             Why::NotNumbers => "not whole numbers",
             Why::NotCharge => "not a charge from 0 to 65535",
+            Why::NotMission => "not a mission number from 0 to 4294967295",
+            Why::NoFile => "no text can be read from",
             Why::NoGust => "the machine has no such gust",
             Why::NoOption => "no such option",
             Why::NoValue => "no value follows the option",
@@ -67,6 +71,8 @@ impl Why {
 pub enum Fault<'a> {
     Usage,
     Word(Why, &'a str),
+    // a line of a script, counted from 0, is no call
+    Line(usize),
     Output,
     Memory,
 }
@@ -82,6 +88,10 @@ pub impl fmt::Display for Fault<'_> as FaultDisplay {
                     Some(number) => write!(f, ": refused {number}"),
                     None => Ok(()),
                 }
+            }
+            Fault::Line(i) => {
+                let line = i.saturating_add(1);
+                write!(f, "line {line} is no call")
             }
             Fault::Output => write!(f, "standard output cannot be written"),
             Fault::Memory => write!(f, "no memory is left"),

@@ -5,6 +5,7 @@ mod judge;
 mod layer;
 mod machine;
 mod options;
+mod script;
 mod words;
 
 use commands::Task;
@@ -19,6 +20,7 @@ fn run<'a>(rt: &LibcRuntime, words: &'a [String]) -> Result<(), Fault<'a>> {
         [command, rest @ ..] => match command.as_str() {
             "brake" => commands::run(rt, Task::Brake, rest),
             "judge" => commands::run(rt, Task::Judge, rest),
+            "calls" => commands::run(rt, Task::Calls, rest),
             other => Err(Fault::Word(Why::NoCommand, other)),
         },
         [] => Err(Fault::Usage),
