@@ -5,3 +5,4 @@ pub mod Making
 pub mod Took
 pub mod Replay
 pub mod View
+pub mod Acting

@@ -1,3 +1,4 @@
+pub mod act;
 pub mod calls;
 pub mod grant;
 pub mod held;

@@ -1,4 +1,5 @@
 use crate::brake;
+use crate::demo;
 use crate::fault::Fault;
 use crate::fault::FaultFromIo;
 use crate::fault::Why;
@@ -17,6 +18,7 @@ use drone::guarding::DroneGuard;
 use guard::Guard;
 use guard::reading::Reading;
 use guard::refusal::Refusal;
+use guard::refusal::StateRefusalNumber;
 use layers::battery::Battery;
 use layers::battery::BatteryGuard;
 use layers::fence::FenceGuard;
@@ -260,4 +262,54 @@ pub fn run<'a>(rt: &LibcRuntime, task: Task, words: &'a [String]) -> Result<(), 
     }
     let given = options::read(task, &words[n..])?;
     at_places(rt, task, &words[0..n], given)
+}
+
+// The reading at the state of these numbers, with a charge of 1,000.
+fn start<G: Guard>(g: &G, n: (i32, i32, i32)) -> Result<Reading<G::State>, Why> {
+    match g.state(n) {
+        Ok(state) => Ok(Reading {
+            state,
+            charge: 1000,
+        }),
+        Err(refusal) => Err(Why::NoState(refusal.number())),
+    }
+}
+
+fn show_from<'a, G: Guard + Copy>(
+    rt: &LibcRuntime,
+    kind: Kind,
+    g: &G,
+    n: (i32, i32, i32),
+    machine: &'a str,
+) -> Result<(), Fault<'a>> {
+    let r = match start(g, n) {
+        Ok(r) => r,
+        Err(why) => return Err(Fault::Word(why, machine)),
+    };
+    demo::demo(rt, kind, g, r)
+}
+
+// `mission demo MACHINE`: from rest in the middle of the rail, or from the ground in the middle of the hall.
+pub fn show<'a>(rt: &LibcRuntime, words: &'a [String]) -> Result<(), Fault<'a>> {
+    let [word] = words else {
+        return Err(Fault::Usage);
+    };
+    let machine = word.as_str();
+    match machine.split_once(':') {
+        Some(("cart", length)) => match (words::number(length), cart(length)) {
+            (Ok(n), Ok(cart)) => show_from(rt, Kind::Cart, &cart, (n / 2, 0, 0), machine),
+            (Err(why), _) | (_, Err(why)) => Err(Fault::Word(why, machine)),
+        },
+        Some(("drone", size)) => match (words::numbers(3, Why::HallForm, size), drone(size)) {
+            (Ok(n), Ok(drone)) => show_from(
+                rt,
+                Kind::Drone,
+                &drone,
+                (n[0] / 2, n[1] / 2, 0),
+                machine,
+            ),
+            (Err(why), _) | (_, Err(why)) => Err(Fault::Word(why, machine)),
+        },
+        _ => Err(Fault::Word(Why::NoMachine, machine)),
+    }
 }

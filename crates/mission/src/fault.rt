@@ -4,7 +4,7 @@ use std::fmt;
 use std::io;
 
 const USAGE: &str =
-    "usage: mission brake|judge MACHINE LAYER.. STATE [--charge N] [--gusts W,W,..], or mission calls MACHINE LAYER.. [--mission N] FILE, with cart:LENGTH or drone:X,Y,Z and fence:REGION+.. or battery:RESERVE";
+    "usage: mission brake|judge MACHINE LAYER.. STATE [--charge N] [--gusts W,W,..], mission calls MACHINE LAYER.. [--mission N] FILE, or mission demo MACHINE, with cart:LENGTH or drone:X,Y,Z and fence:REGION+.. or battery:RESERVE";
 
 // What is wrong with a word. Where the library refuses it, the number of the refusal.
 #[derive(Clone, Copy)]
@@ -73,6 +73,8 @@ pub enum Fault<'a> {
     Word(Why, &'a str),
     // a line of a script, counted from 0, is no call
     Line(usize),
+    // the executive refuses a call, under this number
+    Call(u8),
     Output,
     Memory,
 }
@@ -93,6 +95,7 @@ pub impl fmt::Display for Fault<'_> as FaultDisplay {
                 let line = i.saturating_add(1);
                 write!(f, "line {line} is no call")
             }
+            Fault::Call(number) => write!(f, "the executive refuses a call: refused {number}"),
             Fault::Output => write!(f, "standard output cannot be written"),
             Fault::Memory => write!(f, "no memory is left"),
         }

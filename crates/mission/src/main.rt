@@ -1,5 +1,6 @@
 mod brake;
 mod commands;
+mod demo;
 mod fault;
 mod judge;
 mod layer;
@@ -20,6 +21,7 @@ fn run<'a>(rt: &LibcRuntime, words: &'a [String]) -> Result<(), Fault<'a>> {
         [command, rest @ ..] => match command.as_str() {
             "brake" => commands::run(rt, Task::Brake, rest),
             "judge" => commands::run(rt, Task::Judge, rest),
+            "demo" => commands::show(rt, rest),
             "calls" => commands::run(rt, Task::Calls, rest),
             other => Err(Fault::Word(Why::NoCommand, other)),
         },

@@ -1,6 +1,5 @@
 ghost use Rattle.worked.specs.Edges.{Edges};
 
-pub mod acting;
 #[cfg(test)]
 mod carts;
 #[cfg(test)]
@@ -12,6 +11,7 @@ mod regions;
 #[cfg(test)]
 mod rules;
 pub mod sealing;
+pub mod spending;
 #[cfg(test)]
 mod stacks;
 

@@ -10,9 +10,9 @@ use Rattle.history.specs.declared.calls.Call.the-variants.{Decide, Spend}
 use Rattle.history.specs.declared.calls.Answer.the-variants.{Granted, Refused}
 use Rattle.history.specs.declared.calls.CallRefusal.{CallRefusal}
 
--- from holding d to holding f: the action of the grant that decide gives, spent; or decide's refusal, and nothing changed
-abbrev pub Acted : {S : Type 0} → Meaning S → ℕ → Held S → ℕ → Result ℕ CallRefusal → Held S → Type 0
-Acted m n d b (Ok a) f =
+-- from holding d to holding f: the numbers of the grant that decide gives, spent; or decide's refusal, and nothing changed
+abbrev pub Acted : {S : Type 0} → Meaning S → ℕ → Held S → ℕ → Result Ticket CallRefusal → Held S → Type 0
+Acted m n d b (Ok t) f =
     let o = outcome m n d (Decide b) in
-    (t : Ticket) × (o .answer ≡ Granted t) × (a ≡ t .action) × (f ≡ outcome m n (o .held) (Spend t) .held)
+    (o .answer ≡ Granted t) × (f ≡ outcome m n (o .held) (Spend t) .held)
 Acted m n d b (Err x) f = (outcome m n d (Decide b) .answer ≡ Refused x) × (f ≡ d)
