@@ -7,5 +7,5 @@ pub returns : goal.returns
 returns g c =
     let m = g.G.Guard.meaning c.args.g.now in
     let laws = g.met.G.Guard.lawful c.args.g.now in
-    let e = c.state-and-charge-can-follow.ensures in
+    let e = c.state_and_charge_can_follow.ensures in
     record { value = e; means = Decides-at _ (follows m c.args.r c.args.a c.args.t) e (decides_follows m laws c.args.r c.args.a c.args.t) }

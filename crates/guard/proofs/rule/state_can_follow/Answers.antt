@@ -6,11 +6,11 @@ use Rattle.guard.specs.Decision.{same_numbers}
 use Rattle.guard.proofs.Bounded.{told_some}
 use Rattle.guard.proofs.rule.state_can_follow.Goals as goal
 
-pub returns-then-a-action-count : goal.returns-then-a-action-count
-returns-then-a-action-count g c =
+pub returns-then-a-action_count : goal.returns-then-a-action_count
+returns-then-a-action_count g c =
     let m = g.G.Guard.meaning c.args.g.now in
     let leads : Numbers → ℕ → Bool = λ n w. same_numbers (m.numbers (m.after c.args.s c.args.a w)) n in
     let h : c.args.a < m.actions = omega arith in
     let below = lt-ltb c.args.a m.actions h in
-    let told = told_some c.some-gust-leads.result m.gusts (leads c.numbers.result) c.some-gust-leads.ensures in
-    rw below (subst (λ (n : Numbers). c.some-gust-leads.result ≡ any m.gusts (leads n)) c.numbers.ensures told)
+    let told = told_some c.some_gust_leads.result m.gusts (leads c.numbers.result) c.some_gust_leads.ensures in
+    rw below (subst (λ (n : Numbers). c.some_gust_leads.result ≡ any m.gusts (leads n)) c.numbers.ensures told)
