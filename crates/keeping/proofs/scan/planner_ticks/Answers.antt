@@ -15,8 +15,8 @@ returns-in-Ok-None c =
     let y : c.next.result ≡ Ok None = search rules in
     (ends_sound _ _ _ _ k _ _ n y, ends_ranges _ _ _ _ k _ _ n y, ends_open _ _ _ _ k _ _ n y)
 
-pub returns-then-not-is-log : goal.returns-then-not-is-log
-returns-then-not-is-log c =
+pub returns-then-not-is_log : goal.returns-then-not-is_log
+returns-then-not-is_log c =
     let k = c.loop-ranges.invariant in
     let n = c.next.ensures in
     let y : c.next.result ≡ Ok (Some c.in-Ok-Some.r) = search rules in
@@ -32,9 +32,9 @@ loop-ranges-preserved c =
     let on = read_on _ _ _ _ k _ _ n _ y yes-log in
     let items = vec_items c.loop-ranges.ranges in
     let with-range = λ (o : Option Ticks). Standing c.args.log.now (items ++ option_to_list o) (start_after c.loop-ranges.open c.in-Ok-Some.r) (unread c.next.new.self) in
-    elim c.match-closed-by.branch [
-      | in-Some+in-Ok w ↦ rw (w.ranges-is, w.in-Ok.ensures.items, c.start-after-open.ensures) (subst with-range (sym w.in-Some.ensures) on)
-      | in-default w ↦ rw (w.ranges-is, c.start-after-open.ensures) (subst (λ xs. Standing c.args.log.now xs (start_after c.loop-ranges.open c.in-Ok-Some.r) (unread c.next.new.self)) (append-nil items) (subst with-range (sym w.in-default.ensures) on))
+    elim c.match-closed_by.branch [
+      | in-Some+in-Ok w ↦ rw (w.ranges-is, w.in-Ok.ensures.items, c.start_after-open.ensures) (subst with-range (sym w.in-Some.ensures) on)
+      | in-default w ↦ rw (w.ranges-is, c.start_after-open.ensures) (subst (λ xs. Standing c.args.log.now xs (start_after c.loop-ranges.open c.in-Ok-Some.r) (unread c.next.new.self)) (append-nil items) (subst with-range (sym w.in-default.ensures) on))
     ]
 
 pub returns-in-Err : goal.returns-in-Err

@@ -7,6 +7,6 @@ use Rattle.records.proofs.reader.decode.Goals as goal
 pub returns : goal.returns
 returns c =
     record {
-      value = c.decode-kind.ensures;
-      taken = decodes c.args.mark c.args.kind c.args.body.now (All-from_get_or _ c.args.body.now 0 (λ i h. (c.type-inv.body i).fits)) c.decode-kind.result c.decode-kind.ensures;
+      value = c.decode_kind.ensures;
+      taken = decodes c.args.mark c.args.kind c.args.body.now (All-from_get_or _ c.args.body.now 0 (λ i h. (c.type-inv.body i).fits)) c.decode_kind.result c.decode_kind.ensures;
     }

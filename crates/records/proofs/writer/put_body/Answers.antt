@@ -13,14 +13,14 @@ returns-in-Switch c =
     let w = c.in-Switch in
     let log = c.args.log.now in
     let at = c.args.at in
-    let two = placed_then log at (at + 4) (le 4 w.tick) (le 1 w.reason) _ _ (omega arith) refl c.put-u32.ensures c.put-u8-in-Switch.ensures in
-    rw w.is (placed_then log at (at + 5) (le 4 w.tick ++ le 1 w.reason) (reading_bytes w.reading) _ _ (omega arith) refl two c.put-reading.ensures)
+    let two = placed_then log at (at + 4) (le 4 w.tick) (le 1 w.reason) _ _ (omega arith) refl c.put_u32.ensures c.put_u8-in-Switch.ensures in
+    rw w.is (placed_then log at (at + 5) (le 4 w.tick ++ le 1 w.reason) (reading_bytes w.reading) _ _ (omega arith) refl two c.put_reading.ensures)
 
 pub returns-in-Refusal : goal.returns-in-Refusal
 returns-in-Refusal c =
     let room : c.args.at + 5 ≤ length c.args.log.now = rw c.in-Refusal.is at c.requires in
     let w = c.in-Refusal in
-    rw w.is (placed_then c.args.log.now c.args.at (c.args.at + 4) (le 4 w.place) (le 1 w.refusal) _ _ (omega arith) refl c.put-u32-in-Refusal.ensures c.put-u8-in-Refusal.ensures)
+    rw w.is (placed_then c.args.log.now c.args.at (c.args.at + 4) (le 4 w.place) (le 1 w.refusal) _ _ (omega arith) refl c.put_u32-in-Refusal.ensures c.put_u8-in-Refusal.ensures)
 
 pub returns-in-Closing : goal.returns-in-Closing
 returns-in-Closing c =
@@ -28,7 +28,7 @@ returns-in-Closing c =
     let w = c.in-Closing in
     let log = c.args.log.now in
     let at = c.args.at in
-    let two = placed_then log at (at + 4) (le 4 w.tick) (le 4 w.given) _ _ (omega arith) refl c.put-u32-in-Closing.ensures c.put-u32-in-Closing-2.ensures in
-    let three = placed_then log at (at + 8) (le 4 w.tick ++ le 4 w.given) (le 4 w.spent) _ _ (omega arith) refl two c.put-u32-in-Closing-3.ensures in
-    let four = placed_then log at (at + 12) (le 4 w.tick ++ le 4 w.given ++ le 4 w.spent) (le 4 w.gains) _ _ (omega arith) refl three c.put-u32-in-Closing-4.ensures in
-    rw w.is (placed_then log at (at + 16) (le 4 w.tick ++ le 4 w.given ++ le 4 w.spent ++ le 4 w.gains) (le 4 w.losses) _ _ (omega arith) refl four c.put-u32-in-Closing-5.ensures)
+    let two = placed_then log at (at + 4) (le 4 w.tick) (le 4 w.given) _ _ (omega arith) refl c.put_u32-in-Closing.ensures c.put_u32-in-Closing-2.ensures in
+    let three = placed_then log at (at + 8) (le 4 w.tick ++ le 4 w.given) (le 4 w.spent) _ _ (omega arith) refl two c.put_u32-in-Closing-3.ensures in
+    let four = placed_then log at (at + 12) (le 4 w.tick ++ le 4 w.given ++ le 4 w.spent) (le 4 w.gains) _ _ (omega arith) refl three c.put_u32-in-Closing-4.ensures in
+    rw w.is (placed_then log at (at + 16) (le 4 w.tick ++ le 4 w.given ++ le 4 w.spent ++ le 4 w.gains) (le 4 w.losses) _ _ (omega arith) refl four c.put_u32-in-Closing-5.ensures)

@@ -4,4 +4,4 @@ use Rattle.records.proofs.Endian.{le_four}
 use Rattle.records.proofs.writer.put_i32.Goals as goal
 
 pub returns : goal.returns
-returns c = c.put.ensures ∙ ap (placed c.args.log.now c.args.at) ((simp (to_z-of_z c.ranges.x) at c.to-le-bytes.ensures) ∙ le_four (of_z w32 c.args.x))
+returns c = c.put.ensures ∙ ap (placed c.args.log.now c.args.at) ((simp (to_z-of_z c.ranges.x) at c.to_le_bytes.ensures) ∙ le_four (of_z w32 c.args.x))

@@ -14,7 +14,7 @@ returns c =
     let x = signed_le s.0 in
     let y = signed_le s.1 in
     let z = signed_le s.2 in
-    let one = simp (to_z-of_z fx) at c.put-i32.ensures in
-    let two = placed_then log at (at + 4) x y _ _ (omega arith) refl one (simp (to_z-of_z fy) at c.put-i32-2.ensures) in
-    let three = placed_then log at (at + 8) (x ++ y) z _ _ (omega arith) refl two (simp (to_z-of_z fz) at c.put-i32-3.ensures) in
-    placed_then log at (at + 12) (x ++ y ++ z) (le 2 c.args.r.charge) _ _ (omega arith) refl three c.put-u16.ensures
+    let one = simp (to_z-of_z fx) at c.put_i32.ensures in
+    let two = placed_then log at (at + 4) x y _ _ (omega arith) refl one (simp (to_z-of_z fy) at c.put_i32-2.ensures) in
+    let three = placed_then log at (at + 8) (x ++ y) z _ _ (omega arith) refl two (simp (to_z-of_z fz) at c.put_i32-3.ensures) in
+    placed_then log at (at + 12) (x ++ y ++ z) (le 2 c.args.r.charge) _ _ (omega arith) refl three c.put_u16.ensures

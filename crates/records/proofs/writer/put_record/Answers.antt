@@ -11,5 +11,5 @@ returns c =
     let at = c.args.at in
     let k = c.kind-kind.ensures.value in
     let mark = c.put.ensures ∙ ap (placed log at) (c.mark.ensures ∙ ap mark_of k) in
-    let byte = c.put-u8.ensures ∙ ap (λ n. placed c.put.new.log (at + 2) (le 1 n)) (c.byte.ensures ∙ ap number_of k) in
-    placed_record log at c.args.r c.requires _ _ _ mark byte c.put-body.ensures
+    let byte = c.put_u8.ensures ∙ ap (λ n. placed c.put.new.log (at + 2) (le 1 n)) (c.byte.ensures ∙ ap number_of k) in
+    placed_record log at c.args.r c.requires _ _ _ mark byte c.put_body.ensures

@@ -3,4 +3,4 @@ use Rattle.records.specs.Writing.{placed}
 use Rattle.records.proofs.writer.put_u16.Goals as goal
 
 pub returns : goal.returns
-returns c = c.put.ensures ∙ ap (placed c.args.log.now c.args.at) c.to-le-bytes.ensures
+returns c = c.put.ensures ∙ ap (placed c.args.log.now c.args.at) c.to_le_bytes.ensures

@@ -4,4 +4,4 @@ use Rattle.records.proofs.Endian.{le_four}
 use Rattle.records.proofs.writer.put_u32.Goals as goal
 
 pub returns : goal.returns
-returns c = c.put.ensures ∙ ap (placed c.args.log.now c.args.at) (c.to-le-bytes.ensures ∙ le_four c.args.x)
+returns c = c.put.ensures ∙ ap (placed c.args.log.now c.args.at) (c.to_le_bytes.ensures ∙ le_four c.args.x)

@@ -22,10 +22,10 @@ returns g c =
     let events = (course m d.mission room (held d) tape).events in
     let onward = course_onward m laws d.mission room 0 (held d) (contents tape).records (contents tape).stop in
     record {
-      came = c.run-through.ensures;
+      came = c.run_through.ensures;
       tape_is = tape_is tape;
-      called = subst (λ n. Called m (contents tape).records events n) (sym c.run-through.ensures.number_is) (course_called m d.mission room 0 (held d) (contents tape).records (contents tape).stop);
-      history = λ h u. subst (λ f. Used m d.mission f (events ++ h)) (sym c.run-through.ensures.held_is) (onward h u);
+      called = subst (λ n. Called m (contents tape).records events n) (sym c.run_through.ensures.number_is) (course_called m d.mission room 0 (held d) (contents tape).records (contents tape).stop);
+      history = λ h u. subst (λ f. Used m d.mission f (events ++ h)) (sym c.run_through.ensures.held_is) (onward h u);
       findings = λ h u. found m laws d.mission (events ++ h) (onward h u).right;
-      telling = λ h u n. course_told m d.mission laws room 0 (held d) (contents tape).records (contents tape).stop h u (λ k. n (c.run-through.ensures.number_is ∙ k));
+      telling = λ h u n. course_told m d.mission laws room 0 (held d) (contents tape).records (contents tape).stop h u (λ k. n (c.run_through.ensures.number_is ∙ k));
     }

@@ -6,4 +6,4 @@ use Rattle.cart.proofs.guarding.CartGuard.recoverable.Goals as goal
 pub returns : goal.returns
 returns c =
     let cart = c.args.self.now in
-    record { value = c.stops-on-rail.ensures; exact = Decides-at _ _ c.stops-on-rail.ensures (cart_exact cart.length cart.short c.args.r) }
+    record { value = c.stops_on_rail.ensures; exact = Decides-at _ _ c.stops_on_rail.ensures (cart_exact cart.length cart.short c.args.r) }

@@ -8,7 +8,7 @@ pub returns-in-err-record : goal.returns-in-err-record
 returns-in-err-record c =
     let t = c.args.self.now.tape.now in
     let long : 3 ≤ length t = search rules in
-    let p = err_from_is_err_and c.from-residual.result c.from-residual.ensures.1 in
+    let p = err_from_is_err_and c.from_residual.result c.from_residual.ensures.1 in
     let k = simp take_rest at c.in-err-record.ensures.value in
     rw (p.1, p.2) (record { answer = opened_answer t long _ k; left = opened_left t long _ k; taken = tt })
 
