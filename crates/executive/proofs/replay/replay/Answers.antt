@@ -19,7 +19,7 @@ loop-call-preserved g c =
     let i = c.loop-call.call-index in
     let h : i < length calls = omega arith in
     let e = take_more calls i c.call-item.result h ∙ ap (λ x. take i calls ++ x ∷ []) (sym c.call-item.is) in
-    going_at (sym e) (sym c.in-ok-push.ensures.items) (going_more g.G.Guard.meaning _ _ _ _ _ _ _ _ c.loop-call.invariant c.take.ensures.took)
+    going_at (sym e) (sym c.in_ok-push.ensures.items) (going_more g.G.Guard.meaning _ _ _ _ _ _ _ _ c.loop-call.invariant c.take.ensures.took)
 
 pub returns : goal.returns
 returns g c =

@@ -6,7 +6,7 @@ use Rattle.keeping.specs.Found.{in_log}
 use Rattle.keeping.specs.declared.ticks.Ticks.{Ticks}
 use Rattle.keeping.proofs.Scanning.{Standing, ends_sound, ends_ranges, ends_open, unread as not_read, of_tape, read_on}
 use Rattle.keeping.proofs.scan.planner_ticks.Goals as goal
-use Rattle.keeping.proofs.scan.planner_ticks.Goals.{in-Some+in-Ok, in-default}
+use Rattle.keeping.proofs.scan.planner_ticks.Goals.{in-Some+in-Ok, in_default}
 
 pub returns-in-Ok-None : goal.returns-in-Ok-None
 returns-in-Ok-None c =
@@ -34,7 +34,7 @@ loop-ranges-preserved c =
     let with-range = λ (o : Option Ticks). Standing c.args.log.now (items ++ option_to_list o) (start_after c.loop-ranges.open c.in-Ok-Some.r) (unread c.next.new.self) in
     elim c.match-closed_by.branch [
       | in-Some+in-Ok w ↦ rw (w.ranges-is, w.in-Ok.ensures.items, c.start_after-open.ensures) (subst with-range (sym w.in-Some.ensures) on)
-      | in-default w ↦ rw (w.ranges-is, c.start_after-open.ensures) (subst (λ xs. Standing c.args.log.now xs (start_after c.loop-ranges.open c.in-Ok-Some.r) (unread c.next.new.self)) (append-nil items) (subst with-range (sym w.in-default.ensures) on))
+      | in_default w ↦ rw (w.ranges-is, c.start_after-open.ensures) (subst (λ xs. Standing c.args.log.now xs (start_after c.loop-ranges.open c.in-Ok-Some.r) (unread c.next.new.self)) (append-nil items) (subst with-range (sym w.in_default.ensures) on))
     ]
 
 pub returns-in-Err : goal.returns-in-Err

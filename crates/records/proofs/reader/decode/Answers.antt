@@ -8,5 +8,5 @@ pub returns : goal.returns
 returns c =
     record {
       value = c.decode_kind.ensures;
-      taken = decodes c.args.mark c.args.kind c.args.body.now (All-from_get_or _ c.args.body.now 0 (λ i h. (c.type-inv.body i).fits)) c.decode_kind.result c.decode_kind.ensures;
+      taken = decodes c.args.mark c.args.kind c.args.body.now (All-from_get_or _ c.args.body.now 0 (λ i h. (c.type_inv.body i).fits)) c.decode_kind.result c.decode_kind.ensures;
     }

@@ -36,7 +36,7 @@ loop-due-preserved g c =
 pub returns : goal.returns
 returns g c =
     let k = c.loop-due.invariant in
-    let n = c.in-default.ensures in
+    let n = c.in_default.ensures in
     let t = unread c.loop-due.reader in
     let e = c.loop-due.e in
     let q = subst (λ p. deeds_on (g.G.Guard.meaning p) e.mission c.loop-due.place (held e) t ≡ []) k.guard_is n.due.0 in

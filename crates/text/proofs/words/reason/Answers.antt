@@ -15,5 +15,5 @@ returns-in-2 c = simp c.in-2.is
 pub returns-in-3 : goal.returns-in-3
 returns-in-3 c = simp c.in-3.is
 
-pub returns-in-default : goal.returns-in-default
-returns-in-default c = let h : 4 ≤ c.args.n = omega arith in sym (get_or_past reasons c.args.n _ h)
+pub returns-in_default : goal.returns-in_default
+returns-in_default c = let h : 4 ≤ c.args.n = omega arith in sym (get_or_past reasons c.args.n _ h)

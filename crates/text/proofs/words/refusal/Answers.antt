@@ -55,5 +55,5 @@ returns-in-15 c = simp c.in-15.is
 pub returns-in-16 : goal.returns-in-16
 returns-in-16 c = simp c.in-16.is
 
-pub returns-in-default : goal.returns-in-default
-returns-in-default c = unknown c.args.n (λ above. omega arith)
+pub returns-in_default : goal.returns-in_default
+returns-in_default c = unknown c.args.n (λ above. omega arith)
