@@ -11,10 +11,11 @@ use Rattle.history.proofs.Found.{found}
 use Rattle.executive.specs.Holding.{held}
 use Rattle.executive.specs.Took.{Took}
 use Rattle.executive.specs.Replay.{answers_after, answers_to, paired, Always, Replayed}
+use Rattle.guard.specs.declared.Guard.{Ghosts}
 use Rattle.executive.specs.declared.held.Executive.{Executive}
 
 -- after the calls cs with the answers ys the executive e, made over the guard g, stands where they lead
-pub record Going {G S : Type 0} (m : Meaning S) (g : G) (n : ℕ) (cs : List (Call S)) (ys : List Answer) (e : Executive G S) : Type 0 where
+pub record Going {G S : Type 0} {gs : Ghosts G S} (m : Meaning S) (g : G) (n : ℕ) (cs : List (Call S)) (ys : List Answer) (e : Executive G S gs) : Type 0 where
   pub guard_is : e.guard ≡ g
   pub mission_is : e.mission ≡ n
   pub answers_are : ys ≡ answers_to m n cs
@@ -33,13 +34,13 @@ module _ {S : Type 0} (m : Meaning S) (n : ℕ) where
   always l [] r = found m l n [] r
   always l (e ∷ h) r = (found m l n (e ∷ h) r, always l h r.1)
 
-pub going_at : {G S : Type 0} {m : Meaning S} {g : G} {n : ℕ} {cs ds : List (Call S)} {ys zs : List Answer} {e : Executive G S} → cs ≡ ds → ys ≡ zs → Going m g n cs ys e → Going m g n ds zs e
+pub going_at : {G S : Type 0} {gs : Ghosts G S} {m : Meaning S} {g : G} {n : ℕ} {cs ds : List (Call S)} {ys zs : List Answer} {e : Executive G S gs} → cs ≡ ds → ys ≡ zs → Going m g n cs ys e → Going m g n ds zs e
 going_at {m} {g} {n} {ds} {ys} {e} r q k = subst (λ zs. Going m g n ds zs e) q (subst (λ ds. Going m g n ds ys e) r k)
 
-pub going_none : {G S : Type 0} (m : Meaning S) (g : G) (n : ℕ) (e : Executive G S) → e.guard ≡ g → e.mission ≡ n → Used m n (held e) [] → Going m g n [] [] e
+pub going_none : {G S : Type 0} {gs : Ghosts G S} (m : Meaning S) (g : G) (n : ℕ) (e : Executive G S gs) → e.guard ≡ g → e.mission ≡ n → Used m n (held e) [] → Going m g n [] [] e
 going_none m g n e guard mission u = record { guard_is = guard; mission_is = mission; answers_are = refl; used = u }
 
-pub going_more : {G S : Type 0} (means : G → Meaning S) (g : G) (n : ℕ) (cs : List (Call S)) (ys : List Answer) (c : Call S) (y : Answer) (d e : Executive G S) → Going (means g) g n cs ys d → Took (means d.guard) c y d e → Going (means g) g n (cs ++ c ∷ []) (ys ++ y ∷ []) e
+pub going_more : {G S : Type 0} {gs : Ghosts G S} (means : G → Meaning S) (g : G) (n : ℕ) (cs : List (Call S)) (ys : List Answer) (c : Call S) (y : Answer) (d e : Executive G S gs) → Going (means g) g n cs ys d → Took (means d.guard) c y d e → Going (means g) g n (cs ++ c ∷ []) (ys ++ y ∷ []) e
 going_more {G} {S} means g n cs ys c y d e k t =
     let m = means g in
     let u : Took m c y d e = subst (λ q. Took (means q) c y d e) k.guard_is t in
@@ -53,7 +54,7 @@ going_more {G} {S} means g n cs ys c y d e k t =
       used = subst (Used m n (held e)) (sym (subst (λ zs. paired [] (cs ++ c ∷ []) (zs ++ y ∷ []) ≡ record { call = c; answer = y } ∷ paired [] cs zs) z (paired_push m n [] cs c y))) w.used;
     }
 
-pub going_all : {G S : Type 0} (m : Meaning S) (g : G) (n : ℕ) (cs : List (Call S)) (ys : List Answer) (e : Executive G S) → Laws m → Going m g n cs ys e → Replayed m n cs ys
+pub going_all : {G S : Type 0} {gs : Ghosts G S} (m : Meaning S) (g : G) (n : ℕ) (cs : List (Call S)) (ys : List Answer) (e : Executive G S gs) → Laws m → Going m g n cs ys e → Replayed m n cs ys
 going_all m g n cs ys e l k =
     let r : Right m n (paired [] cs ys) = k.used.right in
     record { answers_are = k.answers_are; right = r; findings = always m n l (paired [] cs ys) r }

@@ -17,6 +17,7 @@ use Rattle.history.specs.declared.phase.Phase.TheVariants.{Parked, Ready, Grante
 use Rattle.history.proofs.Going.{goes_on}
 use Rattle.executive.specs.Holding.{held, Unaltered}
 use Rattle.executive.specs.Took.{Took, Own}
+use Rattle.guard.specs.declared.Guard.{Ghosts}
 use Rattle.executive.specs.declared.held.Executive.{Executive}
 
 -- one of two outcomes, whose answers the call can both have
@@ -55,7 +56,7 @@ module _ {S : Type 0} (m : Meaning S) (mission : ℕ) (e : Held S) where
 pub own_answer : {S : Type 0} (m : Meaning S) (mission : ℕ) (e : Held S) (c : Call S) (a : Answer) → a ≡ (outcome m mission e c).answer → Own c a
 own_answer m mission e c a d = subst (Own c) (sym d) (own_at m mission e e.phase c)
 
-pub goes_on_so : {G S : Type 0} (m : Meaning S) → Laws m → (c : Call S) (a : Answer) (d e : Executive G S) → a ≡ (outcome m d.mission (held d) c).answer → held e ≡ (outcome m d.mission (held d) c).held → (h : History S) → Used m d.mission (held d) h → Goes_on m d.mission (held d) c a (held e) h
+pub goes_on_so : {G S : Type 0} {gs : Ghosts G S} (m : Meaning S) → Laws m → (c : Call S) (a : Answer) (d e : Executive G S gs) → a ≡ (outcome m d.mission (held d) c).answer → held e ≡ (outcome m d.mission (held d) c).held → (h : History S) → Used m d.mission (held d) h → Goes_on m d.mission (held d) c a (held e) h
 goes_on_so m laws c a d e p q h u =
     subst (λ (a : Answer). Goes_on m d.mission (held d) c a (held e) h) (sym p)
     (subst (λ (k : Held _). Goes_on m d.mission (held d) c (outcome m d.mission (held d) c).answer k h) (sym q)

@@ -3,9 +3,10 @@ use Rattle.std.specs.Prelude.{◌≡◌}
 use Rattle.history.specs.Outcome.{Held}
 use Rattle.history.specs.declared.calls.Answer.{Answer}
 use Rattle.history.specs.declared.calls.Answer.TheVariants.{Accepted, Granted, Spent, Ended, Refused}
+use Rattle.guard.specs.declared.Guard.{Ghosts}
 use Rattle.executive.specs.declared.held.Executive.{Executive}
 
-abbrev pub held : {G S : Type 0} → Executive G S → Held S
+abbrev pub held : {G S : Type 0} {gs : Ghosts G S} → Executive G S gs → Held S
 held e = record {
   phase = e.phase;
   tick = e.tick;
@@ -17,7 +18,7 @@ held e = record {
 }
 
 -- a refusal changes nothing
-abbrev pub Unaltered : {G S : Type 0} → Answer → Executive G S → Executive G S → Type 0
+abbrev pub Unaltered : {G S : Type 0} {gs : Ghosts G S} → Answer → Executive G S gs → Executive G S gs → Type 0
 Unaltered Accepted d e = Unit {0}
 Unaltered (Granted t) d e = Unit {0}
 Unaltered (Spent a) d e = Unit {0}

@@ -12,12 +12,13 @@ use Rattle.history.specs.declared.calls.Answer.TheVariants.{Accepted, Granted, S
 use Rattle.history.specs.declared.calls.CallRefusal.{CallRefusal}
 use Rattle.executive.specs.Grants.{ticket_of}
 use Rattle.executive.specs.Holding.{held, Unaltered}
+use Rattle.guard.specs.declared.Guard.{Ghosts}
 use Rattle.executive.specs.declared.held.Executive.{Executive}
 use Rattle.executive.specs.declared.grant.Grant.{Grant}
 use Rattle.executive.specs.declared.grant.Returned.{Returned}
 
 -- the call c was answered a, and took the executive d to e; m is what its guard means
-pub record Took {G S : Type 0} (m : Meaning S) (c : Call S) (a : Answer) (d e : Executive G S) : Type 0 where
+pub record Took {G S : Type 0} {gs : Ghosts G S} (m : Meaning S) (c : Call S) (a : Answer) (d e : Executive G S gs) : Type 0 where
   -- the answer, and what is held then, for every executive
   pub answer_is : a ≡ (outcome m d.mission (held d) c).answer
   pub held_is : held e ≡ (outcome m d.mission (held d) c).held

@@ -4,6 +4,7 @@ use Rattle.std.proofs.lemmas.Bool.{cond-true, eq-eqb}
 use Rattle.guard.specs.Meaning.{Meaning}
 use Rattle.history.specs.Outcome.{Held}
 use Rattle.executive.specs.Holding.{held}
+use Rattle.guard.specs.declared.Guard.{Ghosts}
 use Rattle.executive.specs.declared.held.Executive.{Executive}
 use Rattle.records.specs.Reads.{read}
 use Rattle.records.specs.Refusals.{numbered_read}
@@ -24,7 +25,7 @@ not_zero Cut e = omega arith
 not_zero WrongMark e = omega arith
 not_zero UnknownKind e = omega arith
 
-module _ {G S : Type 0} (m : Meaning S) (i : ℕ) (t : List ℕ) (d : Executive G S) where
+module _ {G S : Type 0} {gs : Ghosts G S} (m : Meaning S) (i : ℕ) (t : List ℕ) (d : Executive G S gs) where
   of_contents : Contents → List (Deed S)
   of_contents c = deeds m d.mission i (held d) c.records c.stop
 
@@ -32,7 +33,7 @@ module _ {G S : Type 0} (m : Meaning S) (i : ℕ) (t : List ℕ) (d : Executive 
   unfolding of_contents
   none_due e = ap of_contents (contents_end t e)
 
-  pub record_due : (r : Record) (rest : List ℕ) (y : Due) (e : Executive G S) → read t ≡ Ok (Some (r, rest)) → Dealt m i r y d e → First m i t y d e rest
+  pub record_due : (r : Record) (rest : List ℕ) (y : Due) (e : Executive G S gs) → read t ≡ Ok (Some (r, rest)) → Dealt m i r y d e → First m i t y d e rest
   unfolding of_contents
   record_due r rest y e q k =
       let w = deed m d.mission i (held d) (asks m r) in
@@ -47,7 +48,7 @@ module _ {G S : Type 0} (m : Meaning S) (i : ℕ) (t : List ℕ) (d : Executive 
         shorter = λ z. rest_shorter t r rest q;
       }
 
-  pub fault_due : (x : ReadRefusal) (y : Due) (e : Executive G S) (rest : List ℕ) → read t ≡ Err x → y.entry ≡ Some (Refusal i (numbered_read x)) → y.ending ≡ numbered_read x → held e ≡ held d → First m i t y d e rest
+  pub fault_due : (x : ReadRefusal) (y : Due) (e : Executive G S gs) (rest : List ℕ) → read t ≡ Err x → y.entry ≡ Some (Refusal i (numbered_read x)) → y.ending ≡ numbered_read x → held e ≡ held d → First m i t y d e rest
   unfolding of_contents
   fault_due x y e rest q entry ending held_is =
       record {

@@ -5,6 +5,7 @@ use Rattle.std.proofs.lemmas.Bool.{cond-true, cond-false, ltb-false, eq-eqb, ne_
 use Rattle.guard.specs.Meaning.{Meaning}
 use Rattle.history.specs.Outcome.{Held}
 use Rattle.executive.specs.Holding.{held}
+use Rattle.guard.specs.declared.Guard.{Ghosts}
 use Rattle.executive.specs.declared.held.Executive.{Executive}
 use Rattle.records.specs.Bytes.{bytes}
 use Rattle.records.specs.Refusals.{numbered_write}
@@ -72,7 +73,7 @@ sized None = refl
 sized (Some r) = ap length (append-nil (bytes r))
 
 -- after some records of the tape, the place i and at bytes of the log: the executive d has become e, the log holds what nowlog has, and the rest is to be read
-pub record Going {G S : Type 0} (m : Meaning S) (tape log : List ℕ) (d : Executive G S) (i at : ℕ) (nowlog : List ℕ) (e : Executive G S) (rest : List ℕ) : Type 0 where
+pub record Going {G S : Type 0} {gs : Ghosts G S} (m : Meaning S) (tape log : List ℕ) (d : Executive G S gs) (i at : ℕ) (nowlog : List ℕ) (e : Executive G S gs) (rest : List ℕ) : Type 0 where
   pub done : List Record
   pub guard_is : e.guard ≡ d.guard
   pub mission_is : e.mission ≡ d.mission
@@ -85,12 +86,12 @@ pub record Going {G S : Type 0} (m : Meaning S) (tape log : List ℕ) (d : Execu
   pub course_is : (course m d.mission (length log) (held d) tape).log ≡ done ++ (within (length log - at) (held e) (deeds_on m d.mission i (held e) rest)).log
 
 -- the same by the course that is left
-pub record Left {G S : Type 0} (m : Meaning S) (tape log : List ℕ) (d : Executive G S) (done : List Record) (left : Course S) : Type 0 where
+pub record Left {G S : Type 0} {gs : Ghosts G S} (m : Meaning S) (tape log : List ℕ) (d : Executive G S gs) (done : List Record) (left : Course S) : Type 0 where
   pub held_is : (course m d.mission (length log) (held d) tape).held ≡ left.held
   pub number_is : (course m d.mission (length log) (held d) tape).number ≡ left.number
   pub course_is : (course m d.mission (length log) (held d) tape).log ≡ done ++ left.log
 
-pub going_none : {G S : Type 0} (m : Meaning S) (tape log : List ℕ) (d : Executive G S) → Going m tape log d 0 0 log d tape
+pub going_none : {G S : Type 0} {gs : Ghosts G S} (m : Meaning S) (tape log : List ℕ) (d : Executive G S gs) → Going m tape log d 0 0 log d tape
 going_none m tape log d =
     let z : length log ≡ length log - 0 = omega arith in
     record {
@@ -106,7 +107,7 @@ going_none m tape log d =
       course_is = ap (λ (n : ℕ). (within n (held d) (deeds_on m d.mission 0 (held d) tape)).log) z;
     }
 
-module _ {G S : Type 0} (m : Meaning S) (tape log : List ℕ) (d : Executive G S) (i at : ℕ) (nowlog : List ℕ) (e : Executive G S) (rest : List ℕ) (k : Going m tape log d i at nowlog e rest) where
+module _ {G S : Type 0} {gs : Ghosts G S} (m : Meaning S) (tape log : List ℕ) (d : Executive G S gs) (i at : ℕ) (nowlog : List ℕ) (e : Executive G S gs) (rest : List ℕ) (k : Going m tape log d i at nowlog e rest) where
   left_by : (c : Course S) → within (length log - at) (held e) (deeds_on m d.mission i (held e) rest) ≡ c → Left m tape log d k.done c
   left_by c w =
       record {
@@ -119,7 +120,7 @@ module _ {G S : Type 0} (m : Meaning S) (tape log : List ℕ) (d : Executive G S
   same_length = let b = k.at_is in ap length k.log_is ∙ length_placed log 0 (joined k.done) (let r = k.room in omega arith)
 
   -- the run comes to its end with what was logged in all
-  came : (all : List Record) (y : Ended) (after : List ℕ) (f : Executive G S) → (course m d.mission (length log) (held d) tape).log ≡ all → Backed all → y.written ≡ length (joined all) → after ≡ placed log 0 (joined all) → y.number ≡ (course m d.mission (length log) (held d) tape).number → held f ≡ (course m d.mission (length log) (held d) tape).held → f.guard ≡ d.guard → f.mission ≡ d.mission → Came m tape log y after d f
+  came : (all : List Record) (y : Ended) (after : List ℕ) (f : Executive G S gs) → (course m d.mission (length log) (held d) tape).log ≡ all → Backed all → y.written ≡ length (joined all) → after ≡ placed log 0 (joined all) → y.number ≡ (course m d.mission (length log) (held d) tape).number → held f ≡ (course m d.mission (length log) (held d) tape).held → f.guard ≡ d.guard → f.mission ≡ d.mission → Came m tape log y after d f
   came all y after f a b w l n h gu mi =
       let t : take y.written after ≡ joined all = ap (take y.written) l ∙ take_at (joined all) _ y.written (sym w) in
       record {
@@ -133,13 +134,13 @@ module _ {G S : Type 0} (m : Meaning S) (tape log : List ℕ) (d : Executive G S
       }
 
   -- the tape's end
-  pub going_end : (y : Ended) (f : Executive G S) → deeds_on m e.mission i (held e) rest ≡ [] → held f ≡ held e → f.guard ≡ e.guard → f.mission ≡ e.mission → y.written ≡ at → y.number ≡ 0 → Came m tape log y nowlog d f
+  pub going_end : (y : Ended) (f : Executive G S gs) → deeds_on m e.mission i (held e) rest ≡ [] → held f ≡ held e → f.guard ≡ e.guard → f.mission ≡ e.mission → y.written ≡ at → y.number ≡ 0 → Came m tape log y nowlog d f
   going_end y f q h g mi w n =
       let none = ap (λ (x : ℕ). deeds_on m x i (held e) rest) (sym k.mission_is) ∙ q in
       let l = left_by (record { held = held e; events = []; log = []; number = 0 }) (ap (within (length log - at) (held e)) none) in
       came k.done y nowlog f (l.course_is ∙ append-nil k.done) k.backed (w ∙ k.at_is) k.log_is (n ∙ sym l.number_is) (h ∙ sym l.held_is) (g ∙ k.guard_is) (mi ∙ k.mission_is)
 
-  module _ (y : Due) (f : Executive G S) (later : List ℕ) (first : First m i rest y e f later) where
+  module _ (y : Due) (f : Executive G S gs) (later : List ℕ) (first : First m i rest y e f later) where
     head : deeds_on m d.mission i (held e) rest ≡ first.deed ∷ first.later
     head = ap (λ (n : ℕ). deeds_on m n i (held e) rest) (sym k.mission_is) ∙ first.deeds_are
 

@@ -14,6 +14,7 @@ use Rattle.history.specs.declared.calls.Answer.{Answer}
 use Rattle.history.specs.declared.calls.Answer.TheVariants.{Accepted, Granted, Spent, Ended, Refused}
 use Rattle.executive.specs.View.{reading_of}
 use Rattle.executive.specs.Holding.{held}
+use Rattle.guard.specs.declared.Guard.{Ghosts}
 use Rattle.executive.specs.declared.held.Executive.{Executive}
 use Rattle.records.specs.declared.record.Record.{Record}
 use Rattle.records.specs.declared.record.Record.TheVariants.{Switch, Refusal, Closing}
@@ -67,7 +68,7 @@ module _ {S : Type 0} (m : Meaning S) (mission : ℕ) where
   deed i e (nothing x) = record { held = e; events = []; entry = Some (Refusal i (tapes.numbered x)); ending = tapes.numbered x }
 
 -- the request was carried out: from the executive d to e, and y is to be logged
-pub record Carried {G S : Type 0} (m : Meaning S) (i : ℕ) (q : Request S) (y : Option Record) (d e : Executive G S) : Type 0 where
+pub record Carried {G S : Type 0} {gs : Ghosts G S} (m : Meaning S) (i : ℕ) (q : Request S) (y : Option Record) (d e : Executive G S gs) : Type 0 where
   pub entry_is : y ≡ (deed m d.mission i (held d) q).entry
   pub held_is : held e ≡ (deed m d.mission i (held d) q).held
   pub guard_is : e.guard ≡ d.guard

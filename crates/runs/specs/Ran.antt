@@ -6,6 +6,7 @@ use Rattle.history.specs.Findings.{Findings}
 use Rattle.history.specs.Outcome.{Held}
 use Rattle.history.specs.Use.{Used}
 use Rattle.executive.specs.Holding.{held}
+use Rattle.guard.specs.declared.Guard.{Ghosts}
 use Rattle.executive.specs.declared.held.Executive.{Executive}
 use Rattle.records.specs.Tapes.{at_end, Tape, joined, contents}
 use Rattle.records.specs.Writing.{placed, Written}
@@ -19,7 +20,7 @@ use Rattle.runs.specs.declared.due.Due.{Due}
 use Rattle.runs.specs.declared.run.Ended.{Ended}
 
 -- the record r was dealt with: from the executive d to e
-pub record Dealt {G S : Type 0} (m : Meaning S) (i : ℕ) (r : Record) (y : Due) (d e : Executive G S) : Type 0 where
+pub record Dealt {G S : Type 0} {gs : Ghosts G S} (m : Meaning S) (i : ℕ) (r : Record) (y : Due) (d e : Executive G S gs) : Type 0 where
   pub entry_is : y.entry ≡ (deed m d.mission i (held d) (asks m r)).entry
   pub ending_is : y.ending ≡ (deed m d.mission i (held d) (asks m r)).ending
   pub held_is : held e ≡ (deed m d.mission i (held d) (asks m r)).held
@@ -27,7 +28,7 @@ pub record Dealt {G S : Type 0} (m : Meaning S) (i : ℕ) (r : Record) (y : Due)
   pub mission_is : e.mission ≡ d.mission
 
 -- y is due first of the tape, from the executive d to e; then what is left is the rest
-pub record First {G S : Type 0} (m : Meaning S) (i : ℕ) (tape : List ℕ) (y : Due) (d e : Executive G S) (rest : List ℕ) : Type 0 where
+pub record First {G S : Type 0} {gs : Ghosts G S} (m : Meaning S) (i : ℕ) (tape : List ℕ) (y : Due) (d e : Executive G S gs) (rest : List ℕ) : Type 0 where
   pub deed : Deed S
   pub later : List (Deed S)
   pub deeds_are : deeds_on m d.mission i (held d) tape ≡ deed ∷ later
@@ -38,7 +39,7 @@ pub record First {G S : Type 0} (m : Meaning S) (i : ℕ) (tape : List ℕ) (y :
   pub shorter : y.ending ≡ 0 → length rest < length tape
 
 -- what is due next: nothing at the tape's end
-abbrev pub NextDue : {G S : Type 0} → Meaning S → ℕ → List ℕ → Option Due → Executive G S → Executive G S → List ℕ → Type 0
+abbrev pub NextDue : {G S : Type 0} {gs : Ghosts G S} → Meaning S → ℕ → List ℕ → Option Due → Executive G S gs → Executive G S gs → List ℕ → Type 0
 NextDue m i tape None d e rest = (deeds_on m d.mission i (held d) tape ≡ []) × (held e ≡ held d)
 NextDue m i tape (Some y) d e rest = First m i tape y d e rest
 
@@ -48,7 +49,7 @@ Kept log at None y after = (y ≡ Ok at) × (after ≡ log)
 Kept log at (Some r) y after = Written log at r y after
 
 -- a run over the tape into the log: it ended with y, and then the log holds what after has, and the executive d has become e
-pub record Came {G S : Type 0} (m : Meaning S) (tape log : List ℕ) (y : Ended) (after : List ℕ) (d e : Executive G S) : Type 0 where
+pub record Came {G S : Type 0} {gs : Ghosts G S} (m : Meaning S) (tape log : List ℕ) (y : Ended) (after : List ℕ) (d e : Executive G S gs) : Type 0 where
   pub number_is : y.number ≡ (course m d.mission (length log) (held d) tape).number
   pub written_is : y.written ≡ length (joined (course m d.mission (length log) (held d) tape).log)
   pub log_is : after ≡ placed log 0 (joined (course m d.mission (length log) (held d) tape).log)
@@ -59,7 +60,7 @@ pub record Came {G S : Type 0} (m : Meaning S) (tape log : List ℕ) (y : Ended)
   pub back : Tape (take y.written after) (course m d.mission (length log) (held d) tape).log at_end
 
 -- the same, and what it means: for every history that led to the executive, it goes on with exactly the calls of the run
-pub record Ran {G S : Type 0} (m : Meaning S) (tape log : List ℕ) (y : Ended) (after : List ℕ) (d e : Executive G S) : Type 0 where
+pub record Ran {G S : Type 0} {gs : Ghosts G S} (m : Meaning S) (tape log : List ℕ) (y : Ended) (after : List ℕ) (d e : Executive G S gs) : Type 0 where
   pub came : Came m tape log y after d e
   -- the records of the tape, which the course is about
   pub tape_is : Tape tape (contents tape).records (contents tape).stop
