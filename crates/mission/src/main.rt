@@ -14,10 +14,10 @@ mod show;
 mod telling;
 mod words;
 
-use anyhow::anyhow;
 use commands::Task;
 use fault::{Fault, Why};
 use std::env;
+use std::process::ExitCode;
 
 fn run<'a>(rt: &HostRuntime, words: &'a [String]) -> Result<(), Fault<'a>> {
     match words {
@@ -35,16 +35,16 @@ fn run<'a>(rt: &HostRuntime, words: &'a [String]) -> Result<(), Fault<'a>> {
     }
 }
 
-fn main(rt: HostRuntime) -> anyhow::Result<()> {
+fn main(rt: HostRuntime) -> anyhow::Result<ExitCode> {
     let mut words = Vec::new(rt.alloc());
     for word in env::args(&rt)?.skip(1) {
         words.push(word)?;
     }
     match run(&rt, words.as_slice()) {
-        Ok(()) => Ok(()),
+        Ok(()) => Ok(ExitCode::SUCCESS),
         Err(fault) => {
             eprintln!(rt; "mission: {fault}")?;
-            Err(anyhow!("refused"))
+            Ok(ExitCode::FAILURE)
         }
     }
 }

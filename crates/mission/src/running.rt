@@ -39,7 +39,10 @@ fn run_telling<'a, G: Guard>(
     tape: &[u8],
     log: &mut [u8],
 ) -> Result<Ended, Fault<'a>> {
-    let mut teller = Teller::new(rt.stdout());
+    let mut teller = match Teller::new(rt.alloc(), rt.stdout()) {
+        Ok(teller) => teller,
+        Err(_) => return Err(Fault::Memory),
+    };
     let ended = run::run_watched(e, tape, log, &mut teller);
     // a run does not tell of a record that cannot be read, and where the log has no room for its refusal, not even its number
     match ended.number {

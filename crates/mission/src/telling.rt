@@ -6,6 +6,7 @@ use history::phase::Phase;
 use records::reader::Reader;
 use records::record::Record;
 use runs::witness::Witness;
+use std::alloc::Global;
 use std::io::{BufWriter, Stdout, Write};
 use std::{fmt, io};
 use text::hex::Hex;
@@ -81,13 +82,13 @@ impl<G: Guard> Witness<G> for Teller {
 }
 
 impl Teller {
-    pub fn new(out: Stdout) -> Teller {
-        Teller {
-            out: BufWriter::new(out),
+    pub fn new(alloc: Global, out: Stdout) -> io::Result<Teller> {
+        Ok(Teller {
+            out: BufWriter::new(alloc, out)?,
             next: 0,
             due: 0,
             failed: false,
-        }
+        })
     }
 
     // How many bytes the log entries have of which it was told.

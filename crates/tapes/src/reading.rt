@@ -75,7 +75,7 @@ fn records_in_a_row(rt: HostRuntime) -> Result<(), Fail> {
         Ok(Some(Record::Decide { proposal })) => assert_eq!(rt; proposal, 7),
         _ => return Err(Fail::new("no decide")),
     }
-    assert!(rt; reader.rest() == &[0x4D, 0x54, 4]);
+    assert!(rt; reader.rest() == [0x4D, 0x54, 4].as_slice());
     match reader.next() {
         Ok(Some(Record::Close)) => {}
         _ => return Err(Fail::new("no close")),
