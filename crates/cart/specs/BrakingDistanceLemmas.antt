@@ -1,7 +1,6 @@
 -- The cart's braking distances: the rule's own consequences, each by one test over the 41 speed sizes.
-use Rattle.std.specs.Prelude.{◌≡◌, ℕ, ◌+◌, ◌-◌, ◌<◌, ◌≤◌, Bool, true, nat_eq, nat_le, refl}
+use Rattle.std.specs.Prelude.{◌≡◌, ℕ, ◌+◌, ◌-◌, ◌<◌, ◌≤◌, nat_eq, nat_le, refl}
 use Rattle.std.proofs.lemmas.Bool.{leb-true, eqb-true}
-use Rattle.guard.specs.Bounded.{each}
 use Rattle.guard.proofs.Bounded.{each_at}
 use Rattle.cart.specs.BrakingDistance.{distance}
 

@@ -1,17 +1,16 @@
 -- The cart keeps the laws of a guard, and is recoverable exactly where it withstands every list of gusts.
-use Rattle.std.specs.Prelude.{◌≡◌, ℕ, ◌+◌, ◌-◌, ◌/◌, ◌<◌, ◌≤◌, Bool, true, false, cond, ◌&&◌, T, ◌⊎◌, ℤ, pos, negsuc, ◌+ℤ◌, ◌-ℤ◌, ◌≤ℤ◌, Some, None, Option, nat_le, nat_lt, unsigned_abs, refl}
+use Rattle.std.specs.Prelude.{◌≡◌, ℕ, ◌+◌, ◌-◌, ◌<◌, ◌≤◌, true, ◌&&◌, ◌⊎◌, ℤ, pos, ◌+ℤ◌, ◌≤ℤ◌, Some, nat_le, nat_lt, unsigned_abs, refl}
 use Rattle.std.proofs.Common.{sym, ap, subst, ◌∙◌, inl, inr, arith, lit<, lit≤}
-use Rattle.std.proofs.lemmas.Int.{ints, clamps}
+use Rattle.std.proofs.lemmas.Int.{ints}
 use Rattle.std.proofs.lemmas.Bool.{cases_eq, cond-true, cond-false, cond_both, lt-ltb, le-ltb, ltb-true, le-leb, leb-true, eqb-true, and_from, and_left, and_right, and_parts}
 use Rattle.std.proofs.lemmas.Bool.Decides.{nat_tests}
 use Rattle.guard.specs.declared.geometry.Region.{Region}
-use Rattle.guard.specs.declared.reading.Reading.{Reading}
 use Rattle.guard.specs.Regions.{Inside, Within}
-use Rattle.guard.specs.Meaning.{Meaning, Laws, Numbers}
+use Rattle.guard.specs.Meaning.{Laws, Numbers}
 use Rattle.guard.specs.Driven.{Exact}
 use Rattle.guard.proofs.Exactness.{exact}
 use Rattle.cart.specs.declared.state.CartState.{CartState}
-use Rattle.machines.specs.Held.{held, held_size}
+use Rattle.machines.specs.Held.{held}
 use Rattle.machines.specs.Rolling.{on_axis, stretch, slowed, braking_cover}
 use Rattle.cart.specs.BrakingDistance.{distance}
 use Rattle.cart.specs.States.{state_at, after, moved, draw, ticks, numbers, made}

@@ -1,5 +1,5 @@
 -- The states of a cart, and how it moves from one to the next.
-use Rattle.std.specs.Prelude.{ℕ, ◌+◌, ◌/◌, Bool, cond, ◌&&◌, ℤ, pos, ◌+ℤ◌, ◌-ℤ◌, Some, None, Option, ◌==◌, nat_le, nat_lt, unsigned_abs}
+use Rattle.std.specs.Prelude.{ℕ, ◌+◌, ◌/◌, cond, ◌&&◌, ℤ, pos, ◌+ℤ◌, ◌-ℤ◌, Some, None, Option, ◌==◌, nat_le, nat_lt, unsigned_abs}
 use Rattle.guard.specs.Meaning.{Numbers}
 use Rattle.cart.specs.declared.state.CartState.{CartState}
 use Rattle.machines.specs.Held.{held, held_size}

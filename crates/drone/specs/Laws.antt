@@ -1,21 +1,19 @@
 -- The drone keeps the laws of a guard, and is recoverable exactly where it withstands every list of gusts.
-use Rattle.std.specs.Prelude.{◌≡◌, ℕ, suc, ◌+◌, ◌-◌, ◌/◌, ◌%◌, ◌<◌, ◌≤◌, min, Bool, true, false, cond, ◌&&◌, T, ◌⊎◌, ℤ, pos, negsuc, ◌+ℤ◌, ◌-ℤ◌, ◌≤ℤ◌, Some, None, Option, ◌==◌, ◌≢◌, int_le, nat_le, nat_lt, unsigned_abs, refl}
+use Rattle.std.specs.Prelude.{◌≡◌, ℕ, ◌-◌, ◌<◌, ◌≤◌, min, true, ◌&&◌, ◌⊎◌, ℤ, pos, negsuc, ◌+ℤ◌, ◌-ℤ◌, ◌≤ℤ◌, Some, ◌==◌, ◌≢◌, int_le, nat_le, nat_lt, unsigned_abs, refl}
 use Rattle.std.proofs.Common.{sym, ap, subst, ◌∙◌, inl, inr, arith, lit<, lit≤}
 use Rattle.std.proofs.lemmas.Int.{ints, clamps}
 use Rattle.std.proofs.lemmas.Bool.{cases_eq, cond-true, cond-false, lt-ltb, le-ltb, le-leb, leb-true, eq-eqb, ne_eqb, and_from, and_left, and_right, and_parts}
 use Rattle.std.proofs.lemmas.Bool.Decides.{nat_tests}
 use Rattle.guard.specs.declared.geometry.Point.{Point}
-use Rattle.guard.specs.declared.geometry.Region.{Region}
-use Rattle.guard.specs.declared.reading.Reading.{Reading}
-use Rattle.guard.specs.Regions.{Between, Inside, Within}
-use Rattle.guard.specs.Meaning.{Meaning, Laws, Numbers}
+use Rattle.guard.specs.Regions.{Inside, Within}
+use Rattle.guard.specs.Meaning.{Laws, Numbers}
 use Rattle.guard.specs.Driven.{Exact}
 use Rattle.guard.proofs.Regions.{within_by_corners, same_point}
 use Rattle.guard.proofs.Exactness.{exact}
 use Rattle.drone.specs.declared.state.DroneState.{DroneState}
-use Rattle.machines.specs.Held.{held, held_size}
+use Rattle.machines.specs.Held.{held}
 use Rattle.drone.specs.HallSize.{fits}
-use Rattle.drone.specs.States.{cell_at, push_x, push_y, flown, after, draw, numbers, made}
+use Rattle.drone.specs.States.{cell_at, flown, after, numbers, made}
 use Rattle.drone.specs.Meaning.{place, cover, hall, drone}
 use Rattle.machines.proofs.Held.{held_still}
 use Rattle.drone.specs.StatesLemmas.{same_cell}

@@ -1,5 +1,5 @@
 -- The cells of a drone, and how it moves from one to the next.
-use Rattle.std.specs.Prelude.{ℕ, ◌+◌, ◌-◌, ◌/◌, ◌%◌, ◌≤◌, min, Bool, cond, ◌&&◌, ℤ, pos, negsuc, ◌+ℤ◌, ◌-ℤ◌, Some, None, Option, ◌==◌, int_le, nat_le, nat_lt, unsigned_abs}
+use Rattle.std.specs.Prelude.{ℕ, ◌+◌, ◌-◌, ◌/◌, ◌%◌, min, cond, ◌&&◌, ℤ, pos, negsuc, ◌+ℤ◌, ◌-ℤ◌, Some, None, Option, ◌==◌, int_le, nat_le, nat_lt, unsigned_abs}
 use Rattle.std.proofs.Math.Nat.{min-le_right}
 use Rattle.guard.specs.Meaning.{Numbers}
 use Rattle.drone.specs.declared.state.DroneState.{DroneState}

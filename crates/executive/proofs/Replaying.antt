@@ -1,7 +1,7 @@
 -- A use as it goes on, call by call, from its start.
 use Rattle.std.proofs.Common.{◌≡◌, ℕ, List, [], ◌∷◌, ◌++◌, sym, refl, ap, ◌∙◌, subst}
 use Rattle.guard.specs.Meaning.{Meaning, Laws}
-use Rattle.history.specs.History.{Event, History}
+use Rattle.history.specs.History.{History}
 use Rattle.history.specs.Due.{due, Right}
 use Rattle.history.specs.Use.{Used, Goes_on}
 use Rattle.history.specs.Findings.{Findings}

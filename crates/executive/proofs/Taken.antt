@@ -1,22 +1,19 @@
 -- From the outcome of a call to its promise.
-use Rattle.std.proofs.Common.{◌≡◌, ℕ, Bool, true, false, cond, ltb, sym, refl, subst}
-use Rattle.guard.specs.declared.reading.Reading.{Reading}
+use Rattle.std.proofs.Common.{◌≡◌, ℕ, Bool, true, false, cond, ltb, sym, subst}
 use Rattle.guard.specs.Meaning.{Meaning, Laws}
 use Rattle.guard.specs.Decision.{state_follows, charge_follows}
 use Rattle.history.specs.History.{History}
 use Rattle.history.specs.Due.{same_ticket}
 use Rattle.history.specs.Outcome.{Held, Outcome, outcome, at}
 use Rattle.history.specs.Use.{Used, Goes_on}
-use Rattle.history.specs.declared.calls.Ticket.{Ticket}
 use Rattle.history.specs.declared.calls.Call.{Call}
 use Rattle.history.specs.declared.calls.Call.TheVariants.{Begin, Decide, Spend, Observe, Close}
 use Rattle.history.specs.declared.calls.Answer.{Answer}
-use Rattle.history.specs.declared.calls.Answer.TheVariants.{Accepted, Granted as Gave, Spent, Ended, Refused}
 use Rattle.history.specs.declared.phase.Phase.{Phase}
 use Rattle.history.specs.declared.phase.Phase.TheVariants.{Parked, Ready, Granted, Moving, Closed}
 use Rattle.history.proofs.Going.{goes_on}
-use Rattle.executive.specs.Holding.{held, Unaltered}
-use Rattle.executive.specs.Took.{Took, Own}
+use Rattle.executive.specs.Holding.{held}
+use Rattle.executive.specs.Took.{Own}
 use Rattle.guard.specs.declared.Guard.{Ghosts}
 use Rattle.executive.specs.declared.held.Executive.{Executive}
 

@@ -1,7 +1,7 @@
 -- A whole use of an executive: a list of calls from its making on, and their answers.
 use Rattle.std.specs.Prelude.{◌≡◌, ℕ, List, [], ◌∷◌}
 use Rattle.guard.specs.Meaning.{Meaning}
-use Rattle.history.specs.History.{Event, History}
+use Rattle.history.specs.History.{History}
 use Rattle.history.specs.Due.{due, Right}
 use Rattle.history.specs.Findings.{Findings}
 use Rattle.history.specs.declared.calls.Call.{Call}

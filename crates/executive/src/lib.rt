@@ -1,3 +1,5 @@
+#![tactic(auto)]
+
 pub mod act;
 pub mod calls;
 pub mod grant;

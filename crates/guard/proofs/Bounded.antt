@@ -1,5 +1,5 @@
 -- A test at each number, or at some number, below a bound.
-use Rattle.std.proofs.Common.{◌≡◌, ℕ, zero, suc, ◌+◌, ◌<◌, Bool, true, false, ◌&&◌, ◌||◌, ◌⊎◌, sym, refl, subst, inl, inr, not-suc-le-zero, arith}
+use Rattle.std.proofs.Common.{◌≡◌, ℕ, zero, suc, ◌<◌, Bool, true, false, ◌⊎◌, sym, refl, subst, inl, inr, not-suc-le-zero, arith}
 use Rattle.std.proofs.lemmas.Bool.{and_parts, and_from, and_cases, or_from, or_cases, or_left, or_right, cases_Bool, both_ways}
 use Rattle.guard.specs.Bounded.{each, any}
 use Rattle.guard.specs.Decision.{TellsEach, TellsSome}

@@ -1,11 +1,11 @@
 -- The tests of the decision rule decide what can follow.
-use Rattle.std.proofs.Common.{◌≡◌, ℕ, ◌-◌, ◌<◌, ◌≤◌, Bool, true, false, ◌&&◌, T, ltb, leb, ◌⊎◌, ℤ, Some, Decides, Option, sym, refl, ap, ◌∙◌, subst, inl, inr, arith}
+use Rattle.std.proofs.Common.{◌≡◌, ℕ, ◌<◌, ◌≤◌, Bool, true, false, T, ltb, leb, ℤ, Some, Decides, sym, refl, ap, ◌∙◌, subst, inl, inr, arith}
 use lib.Signed.{le_z}
 use Rattle.std.proofs.lemmas.Int.{ints}
 use Rattle.std.proofs.lemmas.Bool.{and_parts, and_from, and_cases, ltb-true, ltb-false, lt-ltb, le-leb, leb-true}
 use Rattle.guard.specs.declared.reading.Reading.{Reading}
 use Rattle.guard.specs.Bounded.{each, any}
-use Rattle.guard.specs.Meaning.{Meaning, Laws, Follows, Numbers, lowest_charge, with_charge}
+use Rattle.guard.specs.Meaning.{Meaning, Laws, Follows, Numbers, lowest_charge}
 use Rattle.guard.specs.Driven.{lowest}
 use Rattle.guard.specs.Decision.{admissible, calm, same_number, same_numbers, state_follows, charge_follows, follows, Admits, Endangers, Calm}
 use Rattle.guard.proofs.Bounded.{each_at, each_all, each_but, any_at, any_some}

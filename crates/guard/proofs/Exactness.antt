@@ -1,11 +1,10 @@
 -- Where recoverable says exactly that no list of gusts drives a machine under its fallback into an unsafe reading.
-use Rattle.std.proofs.Common.{◌≡◌, ℕ, zero, suc, ◌<◌, ◌≤◌, Bool, true, false, T, ◌⊎◌, List, [], ◌∷◌, Decides, refl, subst, inl, inr, arith}
+use Rattle.std.proofs.Common.{◌≡◌, ℕ, zero, suc, ◌<◌, ◌≤◌, T, ◌⊎◌, [], ◌∷◌, inl, inr, arith}
 use Rattle.std.proofs.lemmas.Bool.{cases_eq}
-use Rattle.std.specs.List.{AllByRecursion as All}
 use Rattle.guard.specs.declared.reading.Reading.{Reading}
-use Rattle.guard.specs.Meaning.{Meaning, Laws, Follows, FallsBack}
+use Rattle.guard.specs.Meaning.{Meaning, Laws, FallsBack}
 use Rattle.guard.proofs.Decision.{T_true, true_T, lowest_follows}
-use Rattle.guard.specs.Driven.{driven, fallen_back, Withstands, Exact}
+use Rattle.guard.specs.Driven.{fallen_back, Withstands, Exact}
 
 module _ {S : Type 0} (m : Meaning S) (laws : Laws m) where
   falls_back : (r : Reading S) (w : ℕ) → w < m.gusts → FallsBack m r (fallen_back m r w)

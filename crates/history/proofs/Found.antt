@@ -1,5 +1,5 @@
 -- The findings hold of every history whose answers are the due ones, for every guard that keeps the laws.
-use Rattle.std.proofs.Common.{◌≡◌, ℕ, ◌+◌, ◌<◌, ◌≤◌, Bool, true, false, cond, ◌||◌, T, eqb, ◌⊎◌, ◌↔◌, List, [], ◌∷◌, Some, None, Option, sym, refl, ap, ◌∙◌, subst, inl, inr, arith}
+use Rattle.std.proofs.Common.{◌≡◌, ℕ, ◌+◌, ◌<◌, ◌≤◌, Bool, true, false, cond, ◌||◌, T, eqb, ◌⊎◌, ◌↔◌, [], ◌∷◌, Some, Option, sym, refl, ap, ◌∙◌, subst, inl, inr, arith}
 use Rattle.std.proofs.lemmas.Bool.{and_from, both_ways}
 use Rattle.guard.specs.declared.reading.Reading.{Reading}
 use Rattle.guard.specs.Meaning.{Meaning, Follows, Laws}
@@ -7,16 +7,16 @@ use Rattle.guard.specs.Decision.{calm, Endangers}
 use Rattle.guard.proofs.Decision.{T_true, true_T, decides_admissible, decides_calm, decides_follows, endangers}
 use Rattle.history.specs.History.{Event, History, Stage, parked, ready, granted, moving, closed, stage, accepted, reads, last, tick, gains, loses, planner, out, grant, given, spent, won, lost}
 use Rattle.history.specs.Due.{due, Right}
-use Rattle.history.specs.Findings.{Throughout, Accepts, Grants, GrantedSince, Decided, Sound, Totalled, one_if, Findings}
+use Rattle.history.specs.Findings.{Throughout, Accepts, GrantedSince, Decided, Sound, Totalled, one_if, Findings}
 use Rattle.history.specs.declared.calls.Ticket.{Ticket}
 use Rattle.history.specs.declared.calls.Totals.{Totals}
 use Rattle.history.specs.declared.calls.Call.{Call}
-use Rattle.history.specs.declared.calls.Call.TheVariants.{Begin, Decide, Spend, Observe, Close}
+use Rattle.history.specs.declared.calls.Call.TheVariants.{Decide, Spend}
 use Rattle.history.specs.declared.calls.Answer.{Answer}
-use Rattle.history.specs.declared.calls.Answer.TheVariants.{Accepted, Granted, Spent, Ended, Refused}
+use Rattle.history.specs.declared.calls.Answer.TheVariants.{Granted, Spent, Ended, Refused}
 use Rattle.history.specs.declared.calls.CallRefusal.{CallRefusal}
 use Rattle.history.specs.declared.calls.CallRefusal.TheVariants.{MissionOver}
-use Rattle.history.proofs.Told.{Chosen, approved, unknown, rejected, gained, waited, is_over, Told, turned, begun, decided, done, observed, ended, told}
+use Rattle.history.proofs.Told.{Chosen, approved, unknown, rejected, gained, waited, Told, turned, begun, decided, done, observed, ended, told}
 
 abbrev event : {S : Type 0} → Call S → Answer → Event S
 event c a = record { call = c; answer = a }

@@ -1,12 +1,12 @@
 -- What a call leaves an executive with is what is held after the history with that call.
-use Rattle.std.proofs.Common.{◌≡◌, ℕ, ◌+◌, Bool, true, false, cond, ltb, [], ◌∷◌, Some, None, Option, sym, refl, ap, ◌∙◌}
+use Rattle.std.proofs.Common.{◌≡◌, ℕ, ◌+◌, Bool, true, false, cond, ltb, [], ◌∷◌, Some, Option, sym, refl, ap, ◌∙◌}
 use Rattle.std.proofs.lemmas.Bool.{cond-true, cond-false}
 use Rattle.guard.specs.declared.reading.Reading.{Reading}
 use Rattle.guard.specs.Meaning.{Meaning, Laws}
 use Rattle.guard.specs.Decision.{state_follows, charge_follows}
-use Rattle.history.specs.History.{Event, History, Stage, parked, ready, granted, moving, closed, stage, last, grant, tick, planner, given, spent, won, lost}
-use Rattle.history.specs.Due.{has_place, choice, same_ticket, of_reading, of_grant, in_place, due, Right}
-use Rattle.history.specs.Outcome.{Held, Outcome, refusing, in_phase, ticket, is_gain, is_loss, after_giving, began, decided, spending, observed, closing, at, outcome, unused}
+use Rattle.history.specs.History.{History, Stage, parked, ready, granted, moving, closed, stage, last, grant}
+use Rattle.history.specs.Due.{has_place, choice, same_ticket, of_reading, of_grant, in_place, due}
+use Rattle.history.specs.Outcome.{Held, Outcome, refusing, in_phase, ticket, is_gain, is_loss, after_giving, closing, at, outcome, unused}
 use Rattle.history.specs.Use.{Stands, Used, Goes_on}
 use Rattle.history.specs.declared.calls.Ticket.{Ticket}
 use Rattle.history.specs.declared.calls.Call.{Call}

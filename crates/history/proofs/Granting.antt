@@ -1,5 +1,5 @@
 -- A grant that was just given is taken by the next spend.
-use Rattle.std.proofs.Common.{◌≡◌, ℕ, Bool, true, false, cond, eqb, ltb, sym, refl, ap, ◌∙◌, subst, arith}
+use Rattle.std.proofs.Common.{◌≡◌, ℕ, Bool, true, false, cond, ltb, sym, refl, ap, subst, arith}
 use Rattle.std.proofs.lemmas.Bool.{cond-true, and_from, eq-eqb}
 use Rattle.guard.specs.declared.reading.Reading.{Reading}
 use Rattle.guard.specs.Meaning.{Meaning}
@@ -8,7 +8,7 @@ use Rattle.history.specs.Outcome.{Held, Outcome, refusing, ticket, after_giving,
 use Rattle.history.specs.declared.calls.Ticket.{Ticket}
 use Rattle.history.specs.declared.calls.Call.TheVariants.{Decide, Spend}
 use Rattle.history.specs.declared.calls.Answer.{Answer}
-use Rattle.history.specs.declared.calls.Answer.TheVariants.{Granted as Gave, Spent, Refused}
+use Rattle.history.specs.declared.calls.Answer.TheVariants.{Granted as Gave, Spent}
 use Rattle.history.specs.declared.calls.CallRefusal.{CallRefusal}
 use Rattle.history.specs.declared.calls.CallRefusal.TheVariants.{MissionOver}
 use Rattle.history.specs.declared.phase.Phase.{Phase}

@@ -3,7 +3,7 @@ use Rattle.std.specs.Prelude.{◌≡◌, ℕ, Bool, true, false, cond, ◌&&◌,
 use Rattle.guard.specs.declared.reading.Reading.{Reading}
 use Rattle.guard.specs.Meaning.{Meaning}
 use Rattle.guard.specs.Decision.{admissible, calm, state_follows, charge_follows}
-use Rattle.history.specs.History.{Event, History, Stage, parked, ready, granted, moving, closed, stage, last, tick, planner, grant, given, spent, won, lost}
+use Rattle.history.specs.History.{History, Stage, parked, ready, granted, moving, closed, stage, last, tick, planner, grant, given, spent, won, lost}
 use Rattle.history.specs.declared.calls.Ticket.{Ticket}
 use Rattle.history.specs.declared.calls.Call.{Call}
 use Rattle.history.specs.declared.calls.Call.TheVariants.{Begin, Decide, Spend, Observe, Close}

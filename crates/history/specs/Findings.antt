@@ -1,13 +1,12 @@
 -- What holds of every history of an executive, in the words of the subject.
-use Rattle.std.specs.Prelude.{◌≡◌, ℕ, ◌+◌, ◌<◌, ◌≤◌, Bool, true, false, cond, T, ◌⊎◌, ◌↔◌, List, [], ◌∷◌, Some}
+use Rattle.std.specs.Prelude.{◌≡◌, ℕ, ◌+◌, ◌<◌, ◌≤◌, Bool, true, false, cond, T, ◌⊎◌, ◌↔◌, [], ◌∷◌, Some}
 use Rattle.guard.specs.declared.reading.Reading.{Reading}
 use Rattle.guard.specs.Meaning.{Meaning, Follows}
 use Rattle.guard.specs.Decision.{Endangers, calm}
 use Rattle.history.specs.History.{Event, History, last, tick, grant, gains, loses, planner, out, given, spent, won, lost}
 use Rattle.history.specs.declared.calls.Ticket.{Ticket}
 use Rattle.history.specs.declared.calls.Totals.{Totals}
-use Rattle.history.specs.declared.calls.Call.{Call}
-use Rattle.history.specs.declared.calls.Call.TheVariants.{Begin, Decide, Spend, Observe, Close}
+use Rattle.history.specs.declared.calls.Call.TheVariants.{Begin, Decide, Spend, Observe}
 use Rattle.history.specs.declared.calls.Answer.TheVariants.{Accepted, Granted, Spent, Ended, Refused}
 use Rattle.history.specs.declared.calls.CallRefusal.TheVariants.{MissionOver}
 

@@ -5,7 +5,6 @@ use Rattle.guard.specs.Meaning.{Meaning}
 use Rattle.guard.specs.Decision.{state_follows, charge_follows}
 use Rattle.history.specs.Due.{choice, same_ticket}
 use Rattle.history.specs.declared.calls.Ticket.{Ticket}
-use Rattle.history.specs.declared.calls.Totals.{Totals}
 use Rattle.history.specs.declared.calls.Call.{Call}
 use Rattle.history.specs.declared.calls.Call.TheVariants.{Begin, Decide, Spend, Observe, Close}
 use Rattle.history.specs.declared.calls.Answer.{Answer}

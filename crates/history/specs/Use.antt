@@ -1,10 +1,10 @@
 -- What is held after a history, and what one call adds to it.
-use Rattle.std.specs.Prelude.{◌≡◌, ℕ, [], ◌∷◌, Some}
+use Rattle.std.specs.Prelude.{◌≡◌, ℕ, ◌∷◌, Some}
 use Rattle.guard.specs.Meaning.{Meaning}
-use Rattle.history.specs.History.{Event, History, Stage, parked, ready, granted, moving, closed, stage, last, grant, tick, planner, given, spent, won, lost}
+use Rattle.history.specs.History.{History, parked, ready, granted, moving, closed, stage, last, grant, tick, planner, given, spent, won, lost}
 use Rattle.history.specs.Due.{due, Right}
 use Rattle.history.specs.Findings.{Findings}
-use Rattle.history.specs.Outcome.{Held, Outcome, outcome}
+use Rattle.history.specs.Outcome.{Held}
 use Rattle.history.specs.declared.calls.Ticket.{Ticket}
 use Rattle.history.specs.declared.calls.Call.{Call}
 use Rattle.history.specs.declared.calls.Answer.{Answer}

@@ -1,3 +1,5 @@
+#![tactic(auto)]
+
 ghost use Rattle.std.specs.Prelude.{ℕ};
 ghost use Rattle.history.specs.Due.{Right};
 ghost use Rattle.history.specs.Findings.{Findings};

@@ -1,3 +1,5 @@
+#![tactic(auto)]
+
 pub mod control;
 pub mod planned;
 pub mod scan;

@@ -1,5 +1,5 @@
 -- A layer keeps the laws, from those of the guard below and what it shows of its own conditions.
-use Rattle.std.specs.Prelude.{◌≡◌, ℕ, ◌≤◌, Bool, true, ◌&&◌, T, ◌⊎◌}
+use Rattle.std.specs.Prelude.{ℕ, ◌≤◌, Bool, ◌&&◌, T}
 use Rattle.std.proofs.lemmas.Bool.{and_parts, and_from}
 use Rattle.guard.specs.declared.reading.Reading.{Reading}
 use Rattle.guard.specs.Meaning.{Meaning, Laws, Follows, FallsBack, with_charge}

@@ -1,6 +1,6 @@
 -- A battery keeps the laws.
-use Rattle.std.specs.Prelude.{◌≡◌, ℕ, suc, ◌+◌, ◌-◌, ◌*◌, ◌<◌, ◌≤◌, Bool, true, T, leb, ◌⊎◌, nat_le}
-use Rattle.std.proofs.Common.{ap, sym, ◌∙◌, inl, inr, mul-le-mul_left, mul-suc, mul-zero, arith, leb→le, le→leb}
+use Rattle.std.specs.Prelude.{◌≡◌, ℕ, ◌+◌, ◌*◌, ◌<◌, ◌≤◌, Bool, T, leb, nat_le}
+use Rattle.std.proofs.Common.{ap, sym, ◌∙◌, inl, inr, mul-le-mul_left, mul-suc, arith, leb→le, le→leb}
 use Rattle.guard.specs.declared.reading.Reading.{Reading}
 use Rattle.guard.specs.Meaning.{Meaning, Laws, FallsBack}
 use Rattle.layers.specs.Battery.{reserved}

@@ -1,3 +1,5 @@
+#![tactic(auto)]
+
 pub mod battery;
 pub mod draft;
 pub mod fence;

@@ -1,6 +1,6 @@
 -- A bare machine in a hall: safe where its place lies in the hall, recoverable where its cover does.
 -- What it shows of its covers gives the laws about recoverable readings, and exactness.
-use Rattle.std.proofs.Common.{◌≡◌, ℕ, ◌<◌, ◌≤◌, Bool, true, false, T, ◌⊎◌, Decides, sym, refl, subst, inl, inr}
+use Rattle.std.proofs.Common.{◌≡◌, ℕ, ◌<◌, T, ◌⊎◌, Decides, sym, subst, inl, inr}
 use Rattle.std.proofs.lemmas.Bool.Decides.{Decides-at}
 use Rattle.guard.specs.declared.geometry.Point.{Point}
 use Rattle.guard.specs.declared.geometry.Region.{Region}

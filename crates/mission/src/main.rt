@@ -1,3 +1,5 @@
+#![tactic(auto)]
+
 mod brake;
 mod commands;
 mod demo;

@@ -1,5 +1,5 @@
 -- A record put into a buffer as its mark, its kind byte and its body.
-use Rattle.std.proofs.Common.{◌≡◌, ℕ, ◌+◌, ◌≤◌, List, [], ◌∷◌, ◌++◌, length, sym, refl, ap, ◌∙◌, append_assoc, arith, length-append}
+use Rattle.std.proofs.Common.{◌≡◌, ℕ, ◌+◌, ◌≤◌, List, [], ◌∷◌, ◌++◌, length, refl, ap, ◌∙◌, append_assoc, arith, length-append}
 use Rattle.records.specs.Bytes.{bytes, body, kind}
 use Rattle.records.specs.Kinds.{mark_of, number_of}
 use Rattle.records.specs.LittleEndian.{le}

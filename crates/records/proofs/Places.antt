@@ -1,5 +1,5 @@
 -- The bytes of a field, one by one.
-use Rattle.std.proofs.Common.{◌≡◌, ℕ, suc, ◌+◌, ◌<◌, ◌≤◌, List, [], ◌∷◌, length, get_or, take, drop, sym, refl, ap, subst, add-one, arith, drop-cons}
+use Rattle.std.proofs.Common.{◌≡◌, ℕ, suc, ◌+◌, ◌<◌, ◌≤◌, List, [], ◌∷◌, length, get_or, take, drop, refl, ap, subst, arith, drop-cons}
 
 module _ (bs : List ℕ) where
   next : (at after w : ℕ) → at < length bs → after ≡ at + 1 → take (suc w) (drop at bs) ≡ get_or bs at 0 ∷ take w (drop after bs)

@@ -1,7 +1,7 @@
 -- A record whose numbers fit their fields is read back from its bytes, whatever follows them.
-use Rattle.std.proofs.Common.{◌≡◌, ℕ, ◌^◌, ◌<◌, false, cond, ltb, List, [], ◌∷◌, ◌++◌, length, drop, ℤ, Some, Ok, sym, refl, ap, ◌∙◌, arith, length-append, drop_at, w32, SFits, to_z, of_z}
+use Rattle.std.proofs.Common.{◌≡◌, ℕ, ◌^◌, ◌<◌, false, ltb, List, ◌++◌, length, ℤ, Some, Ok, refl, ap, ◌∙◌, arith, length-append, drop_at, w32, SFits, to_z, of_z}
 use Rattle.std.proofs.lemmas.Int.{to_z-of_z, ints}
-use Rattle.records.specs.Bytes.{Noted, reading_bytes, bytes, body, kind}
+use Rattle.records.specs.Bytes.{Noted, bytes, body, kind}
 use Rattle.records.specs.Fitting.{FitsNoted, Fitting}
 use Rattle.records.specs.Kinds.{length_of}
 use Rattle.records.specs.LittleEndian.{le, number, signed_le, signed_number}

@@ -1,14 +1,14 @@
 -- A tape's contents, by its first record and the contents of what is left.
-use Rattle.std.proofs.Common.{◌≡◌, ℕ, zero, suc, ◌+◌, ◌<◌, ◌≤◌, Bool, true, false, cond, ltb, List, [], ◌∷◌, ◌++◌, length, drop, Some, None, Ok, Err, Option, Result, sym, refl, ap, ◌∙◌, subst, append_assoc, arith, length-drop}
+use Rattle.std.proofs.Common.{◌≡◌, ℕ, zero, suc, ◌<◌, ◌≤◌, Bool, true, false, cond, ltb, List, [], ◌∷◌, ◌++◌, length, drop, Some, None, Ok, Err, Option, Result, sym, refl, ap, ◌∙◌, subst, append_assoc, arith, length-drop}
 use Rattle.std.specs.Str.{bytes_eq}
 use Rattle.records.specs.Bytes.{bytes}
 use Rattle.records.specs.Kinds.{kind_of, mark_of, length_of}
 use Rattle.records.specs.Reads.{Found, record_of, read_body, read_kind, some_found, read}
-use Rattle.records.specs.Tapes.{Stop, at_end, at_fault, Tape, ends, breaks, goes_on, joined, Contents, with_first, after_read, at_most, contents}
+use Rattle.records.specs.Tapes.{at_end, at_fault, Tape, ends, breaks, goes_on, joined, with_first, after_read, at_most, contents}
 use Rattle.records.specs.declared.record.Kind.{Kind}
 use Rattle.records.specs.declared.record.Record.{Record}
 use Rattle.records.specs.declared.refusal.ReadRefusal.{ReadRefusal}
-use Rattle.records.specs.declared.refusal.ReadRefusal.TheVariants.{Cut, WrongMark, UnknownKind}
+use Rattle.records.specs.declared.refusal.ReadRefusal.TheVariants.{Cut, WrongMark}
 
 -- what is left after a record is shorter, whatever the result
 Shorter : Result (Option Found) ReadRefusal → ℕ → Type 0

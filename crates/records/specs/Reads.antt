@@ -1,5 +1,5 @@
 -- What the bytes of a tape are read as.
-use Rattle.std.specs.Prelude.{ℕ, ◌+◌, cond, List, [], ◌∷◌, ◌++◌, length, take, drop, ℤ, Some, None, Ok, Err, Option, Result, nat_lt}
+use Rattle.std.specs.Prelude.{ℕ, ◌+◌, cond, List, [], ◌∷◌, length, take, drop, ℤ, Some, None, Ok, Err, Option, Result, nat_lt}
 use Rattle.std.specs.Str.{bytes_eq}
 use Rattle.records.specs.Bytes.{Noted}
 use Rattle.records.specs.Kinds.{kind_of, mark_of, length_of}

@@ -1,3 +1,5 @@
+#![tactic(auto)]
+
 mod fields;
 pub mod reader;
 pub mod record;

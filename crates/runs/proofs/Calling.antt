@@ -7,7 +7,7 @@ use Rattle.guard.specs.declared.refusal.StateRefusal.{StateRefusal}
 use Rattle.history.specs.History.{History}
 use Rattle.history.specs.Outcome.{Held, outcome}
 use Rattle.history.specs.declared.calls.Call.{Call}
-use Rattle.history.specs.declared.calls.Call.TheVariants.{Begin, Decide, Spend, Observe, Close}
+use Rattle.history.specs.declared.calls.Call.TheVariants.{Begin, Observe}
 use Rattle.history.specs.declared.calls.Answer.{Answer}
 use Rattle.history.specs.declared.calls.Answer.TheVariants.{Accepted, Granted, Spent, Ended, Refused}
 use Rattle.records.specs.Refusals.{numbered_read}
@@ -17,7 +17,7 @@ use Rattle.records.specs.declared.record.Record.TheVariants.{Begin as Begins, De
 use Rattle.runs.specs.Asking.{Request, calls, no_state, nothing, asks, reading_of, with_reading}
 use Rattle.runs.specs.Courses.{next_place, broken, deeds, Course, size, full, ended, then, within}
 use Rattle.runs.specs.Deeds.{Deed, deed, answered}
-use Rattle.runs.specs.Law.{call_of, asked_for, unless_spend, calls_in, Called}
+use Rattle.runs.specs.Law.{call_of, unless_spend, calls_in, Called}
 use Rattle.runs.specs.declared.refusal.TapeRefusal.TheVariants.{LogRecord}
 
 -- no record asks to spend a grant

@@ -1,5 +1,5 @@
 -- What is due first of a tape, by what is read of it.
-use Rattle.std.proofs.Common.{◌≡◌, ℕ, true, cond, eqb, List, [], ◌∷◌, Some, None, Ok, Err, sym, refl, ap, ◌∙◌, arith}
+use Rattle.std.proofs.Common.{◌≡◌, ℕ, cond, eqb, List, [], Some, None, Ok, Err, sym, ap, ◌∙◌, arith}
 use Rattle.std.proofs.lemmas.Bool.{cond-true, eq-eqb}
 use Rattle.guard.specs.Meaning.{Meaning}
 use Rattle.history.specs.Outcome.{Held}
@@ -8,7 +8,7 @@ use Rattle.guard.specs.declared.Guard.{Ghosts}
 use Rattle.executive.specs.declared.held.Executive.{Executive}
 use Rattle.records.specs.Reads.{read}
 use Rattle.records.specs.Refusals.{numbered_read}
-use Rattle.records.specs.Tapes.{Contents, contents}
+use Rattle.records.specs.Tapes.{Contents}
 use Rattle.records.specs.declared.record.Record.{Record}
 use Rattle.records.specs.declared.record.Record.TheVariants.{Refusal}
 use Rattle.records.specs.declared.refusal.ReadRefusal.{ReadRefusal}

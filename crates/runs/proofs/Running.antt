@@ -1,5 +1,5 @@
 -- A run as it goes on, record by record.
-use Rattle.std.proofs.Common.{◌≡◌, ℕ, ◌+◌, ◌-◌, ◌<◌, ◌≤◌, Bool, true, false, cond, eqb, ltb, List, [], ◌∷◌, ◌++◌, length, take, Some, None, Ok, Err, Option, Result, sym, refl, ap, ◌∙◌, subst, append_assoc, append-nil, arith, length-append, take_at}
+use Rattle.std.proofs.Common.{◌≡◌, ℕ, ◌+◌, ◌-◌, ◌≤◌, Bool, true, false, cond, eqb, ltb, List, [], ◌∷◌, ◌++◌, length, take, Some, None, Ok, Err, Option, Result, sym, refl, ap, ◌∙◌, subst, append_assoc, append-nil, arith, length-append, take_at}
 use Rattle.std.specs.Option.{option_to_list}
 use Rattle.std.proofs.lemmas.Bool.{cond-true, cond-false, ltb-false, eq-eqb, ne_eqb}
 use Rattle.guard.specs.Meaning.{Meaning}
@@ -10,14 +10,13 @@ use Rattle.executive.specs.declared.held.Executive.{Executive}
 use Rattle.records.specs.Bytes.{bytes}
 use Rattle.records.specs.Refusals.{numbered_write}
 use Rattle.records.specs.Tapes.{at_end, Tape, joined}
-use Rattle.records.specs.Writing.{placed, end_of, with_record, Written}
+use Rattle.records.specs.Writing.{placed}
 use Rattle.records.specs.declared.record.Record.{Record}
 use Rattle.records.specs.declared.refusal.WriteRefusal.{WriteRefusal}
 use Rattle.records.specs.declared.refusal.WriteRefusal.TheVariants.{NoRoom}
 use Rattle.records.proofs.Placing.{placed_then, placed_none, length_placed}
 use Rattle.records.proofs.Scanned.{Backed, tape_of, backed_both, joined_both}
 use Rattle.runs.specs.Courses.{next_place, deeds_on, Course, size, full, ended, then, within, course}
-use Rattle.runs.specs.Deeds.{Deed}
 use Rattle.runs.specs.Ran.{First, Kept, Came}
 use Rattle.runs.specs.declared.due.Due.{Due}
 use Rattle.runs.specs.declared.run.Ended.{Ended}

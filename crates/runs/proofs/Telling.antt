@@ -4,7 +4,7 @@ use Rattle.std.specs.Option.{option_to_list}
 use Rattle.std.proofs.lemmas.List.Elements.{filter-append}
 use Rattle.guard.specs.Meaning.{Meaning, Laws}
 use Rattle.guard.specs.declared.reading.Reading.{Reading}
-use Rattle.history.specs.History.{Event, History, last}
+use Rattle.history.specs.History.{History, last}
 use Rattle.history.specs.Due.{same_ticket}
 use Rattle.history.specs.Outcome.{Held, Outcome, refusing, in_phase, outcome, at}
 use Rattle.history.specs.Use.{Used, Stands}

@@ -1,5 +1,5 @@
 -- What a record of a tape asks of an executive.
-use Rattle.std.specs.Prelude.{ℕ, ℤ, Ok, Err, Option, Result}
+use Rattle.std.specs.Prelude.{ℕ, Ok, Err, Result}
 use Rattle.std.specs.Option.{ok_or}
 use Rattle.guard.specs.Meaning.{Meaning}
 use Rattle.guard.specs.declared.reading.Reading.{Reading}

@@ -6,7 +6,7 @@ use Rattle.history.specs.History.{History}
 use Rattle.history.specs.Outcome.{Held}
 use Rattle.records.specs.Bytes.{bytes}
 use Rattle.records.specs.Refusals.{numbered_read}
-use Rattle.records.specs.Tapes.{Stop, at_end, at_fault, Contents, contents}
+use Rattle.records.specs.Tapes.{Stop, at_end, at_fault, contents}
 use Rattle.records.specs.declared.record.Record.{Record}
 use Rattle.records.specs.declared.record.Record.TheVariants.{Refusal}
 use Rattle.records.specs.declared.refusal.ReadRefusal.{ReadRefusal}

@@ -1,10 +1,10 @@
 -- What a record of a tape comes to: the calls made for it, what they leave the executive with, and what is logged.
-use Rattle.std.specs.Prelude.{◌≡◌, ℕ, cond, List, [], ◌∷◌, Some, None, Option, ◌==◌}
+use Rattle.std.specs.Prelude.{◌≡◌, ℕ, cond, [], ◌∷◌, Some, None, Option, ◌==◌}
 use Rattle.guard.specs.Meaning.{Meaning}
 use Rattle.guard.specs.Refusals as states
 use Rattle.guard.specs.declared.reading.Reading.{Reading}
-use Rattle.history.specs.History.{Event, History}
-use Rattle.history.specs.Outcome.{Held, Outcome, outcome}
+use Rattle.history.specs.History.{History}
+use Rattle.history.specs.Outcome.{Held, outcome}
 use Rattle.history.specs.Refusals as refusals
 use Rattle.history.specs.declared.calls.Ticket.{Ticket}
 use Rattle.history.specs.declared.calls.Totals.{Totals}

@@ -3,7 +3,6 @@ use Rattle.std.specs.Prelude.{◌≡◌, ℕ, ◌<◌, List, [], ◌∷◌, ◌+
 use Rattle.guard.specs.Meaning.{Meaning}
 use Rattle.history.specs.History.{History}
 use Rattle.history.specs.Findings.{Findings}
-use Rattle.history.specs.Outcome.{Held}
 use Rattle.history.specs.Use.{Used}
 use Rattle.executive.specs.Holding.{held}
 use Rattle.guard.specs.declared.Guard.{Ghosts}
@@ -13,7 +12,7 @@ use Rattle.records.specs.Writing.{placed, Written}
 use Rattle.records.specs.declared.record.Record.{Record}
 use Rattle.records.specs.declared.refusal.WriteRefusal.{WriteRefusal}
 use Rattle.runs.specs.Asking.{asks}
-use Rattle.runs.specs.Courses.{Course, course, deeds_on, next_place}
+use Rattle.runs.specs.Courses.{course, deeds_on, next_place}
 use Rattle.runs.specs.Deeds.{Deed, deed}
 use Rattle.runs.specs.Law.{Called, tellings, tells}
 use Rattle.runs.specs.declared.due.Due.{Due}

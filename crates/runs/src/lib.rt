@@ -1,3 +1,5 @@
+#![tactic(auto)]
+
 mod asking;
 mod deed;
 mod due;

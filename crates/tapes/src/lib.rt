@@ -1,3 +1,5 @@
+#![tactic(auto)]
+
 // Records compared with bytes worked out by hand from their layout, and texts with what they mean.
 #[cfg(test)]
 mod common;

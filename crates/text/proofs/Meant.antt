@@ -1,10 +1,10 @@
 -- A turn of the reading of a hexadecimal text, by what its next byte is.
-use Rattle.std.proofs.Common.{◌≡◌, ℕ, ◌+◌, ◌*◌, ◌<◌, ◌≤◌, List, [], ◌∷◌, ◌++◌, length, get_or, drop, IfSome, Some, None, Ok, Err, Option, Result, sym, refl, ap, ◌∙◌, append_assoc, append-nil, arith, rules}
+use Rattle.std.proofs.Common.{◌≡◌, ℕ, ◌+◌, ◌*◌, ◌<◌, ◌≤◌, List, [], ◌∷◌, ◌++◌, length, get_or, drop, IfSome, Some, None, Ok, Err, Option, Result, sym, refl, ap, ◌∙◌, append_assoc, append-nil, rules}
 use Rattle.std.proofs.lemmas.List.{drop_more, drop_all}
-use Rattle.text.specs.Hex.{glyph_of, before, ended, meant_from}
+use Rattle.text.specs.Hex.{glyph_of, before, meant_from}
 use Rattle.text.specs.declared.hex.Glyph.TheVariants.{Blank, Digit, Other}
 use Rattle.text.specs.declared.hex.HexFault.{HexFault}
-use Rattle.text.specs.declared.hex.HexFault.TheVariants.{NotDigit, Odd, Memory}
+use Rattle.text.specs.declared.hex.HexFault.TheVariants.{NotDigit, Odd}
 
 pub before_twice : (xs ys : List ℕ) (m : Result (List ℕ) HexFault) → before xs (before ys m) ≡ before (xs ++ ys) m
 before_twice xs ys (Ok more) = ap Ok (sym (append_assoc xs ys more))

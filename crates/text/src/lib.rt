@@ -1,3 +1,5 @@
+#![tactic(auto)]
+
 pub mod hex;
 pub mod line;
 pub mod words;

@@ -1,3 +1,5 @@
+#![tactic(auto)]
+
 ghost use Rattle.worked.specs.Edges.{Edges};
 
 #[cfg(test)]

@@ -1,4 +1,4 @@
-use Rattle.std.proofs.Common.{◌≡◌, true, false, [], ◌++◌, Some, None, Ok, Err, vec_items, Option, sym, ap, ◌∙◌, subst, append-nil, rules}
+use Rattle.std.proofs.Common.{◌≡◌, true, false, ◌++◌, Some, None, Ok, Err, vec_items, Option, sym, subst, append-nil, rules}
 use Rattle.std.specs.Option.{option_to_list}
 use Rattle.records.specs.Readers.{unread}
 use Rattle.keeping.specs.Control.{start_after}

@@ -1,5 +1,4 @@
 use Rattle.std.proofs.Common.{◌++◌, length, sym, ◌∙◌, subst}
-use Rattle.history.specs.History.{History}
 use Rattle.history.specs.Use.{Used}
 use Rattle.history.proofs.Found.{found}
 use Rattle.executive.specs.Holding.{held}

@@ -1,4 +1,4 @@
-use Rattle.std.proofs.Common.{◌≡◌, sym, ap, ◌∙◌}
+use Rattle.std.proofs.Common.{sym, ap, ◌∙◌}
 use Rattle.text.specs.Hex.{before}
 use Rattle.text.proofs.Meant.{at_other, blank_more, first_more, second_more, all_meant, all_odd}
 use Rattle.text.proofs.hex.bytes.Goals as goal

@@ -1,4 +1,3 @@
-use Rattle.std.proofs.Common.{rules}
 use Rattle.std.proofs.lemmas.Bool.Decides.{Decides-at}
 use Rattle.cart.specs.Laws.{cart_exact}
 use Rattle.cart.proofs.guarding.CartGuard.recoverable.Goals as goal

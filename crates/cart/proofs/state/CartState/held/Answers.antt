@@ -1,5 +1,4 @@
-use Rattle.std.proofs.Common.{arith, rules}
-use Rattle.std.proofs.lemmas.Int.{ints, clamps}
+use Rattle.std.proofs.Common.{rules}
 use Rattle.cart.specs.States.{state_at}
 use Rattle.cart.specs.StatesLemmas.{same_state}
 use Rattle.cart.proofs.state.CartState.held.Goals as goal

@@ -1,6 +1,6 @@
 use Rattle.std.proofs.Common.{◌≡◌, ℕ, ◌∙◌, arith}
 use Rattle.history.specs.declared.calls.Answer.{Answer}
-use Rattle.history.specs.declared.calls.Answer.TheVariants.{Spent, Refused}
+use Rattle.history.specs.declared.calls.Answer.TheVariants.{Spent}
 use Rattle.history.specs.declared.calls.CallRefusal.{CallRefusal}
 use Rattle.history.proofs.Granting.{given_then_spent}
 use Rattle.executive.specs.Grants.{ticket_of}

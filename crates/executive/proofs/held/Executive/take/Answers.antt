@@ -1,4 +1,3 @@
-use Rattle.history.specs.Outcome.{outcome}
 use Rattle.executive.specs.Holding.{held}
 use Rattle.executive.proofs.Taken.{own_answer, goes_on_so}
 use Rattle.executive.proofs.held.Executive.take.Goals as goal

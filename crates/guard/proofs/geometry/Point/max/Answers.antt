@@ -1,6 +1,5 @@
-use Rattle.std.proofs.Common.{◌≡◌, rules}
+use Rattle.std.proofs.Common.{rules}
 use Rattle.guard.specs.Regions.{larger}
-use Rattle.guard.specs.declared.geometry.Point.{Point}
 use Rattle.guard.proofs.Regions.{same_point}
 use Rattle.guard.proofs.geometry.Point.max.Goals as goal
 
