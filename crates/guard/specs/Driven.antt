@@ -1,6 +1,6 @@
 -- A machine under its own fallback, driven by a list of gusts.
 use Rattle.std.specs.Prelude.{ℕ, ◌<◌, T, List, [], ◌∷◌, Decides}
-use Rattle.std.specs.List.{AllByRecursion as All}
+use Rattle.std.specs.List.{AllByRecursion}
 use Rattle.guard.specs.declared.reading.Reading.{Reading}
 use Rattle.guard.specs.Meaning.{Meaning, lowest_charge}
 
@@ -19,7 +19,7 @@ driven m r (w ∷ ws) = driven m (fallen_back m r w) ws
 
 -- no list of gusts, the empty one neither, drives the machine under its fallback into an unsafe reading
 abbrev pub Withstands : {S : Type 0} → Meaning S → Reading S → Type 0
-Withstands m r = (ws : List ℕ) → All (λ w. w < m.gusts) ws → T (m.safe (driven m r ws))
+Withstands m r = (ws : List ℕ) → AllByRecursion (λ w. w < m.gusts) ws → T (m.safe (driven m r ws))
 
 -- recoverable says exactly that
 abbrev pub Exact : {S : Type 0} → Meaning S → Type 0

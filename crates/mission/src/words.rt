@@ -1,6 +1,6 @@
 ghost use Rattle.std.specs.Prelude.{◌≡◌, ◌<◌, ◌⊎◌, IfOk, IfErr};
 ghost use Rattle.mission.specs.declared.fault.Why.TheVariants.{NotNumbers, NotCharge};
-ghost use Rattle.std.specs.List.{AllByRecursion as All};
+ghost use Rattle.std.specs.List.{AllByRecursion};
 
 use crate::fault::{Fault, Why};
 use crate::machine::Kind;
@@ -66,7 +66,7 @@ fn gust(count: u8, word: &str) -> Result<u8, Why>
 
 // The gusts of a word such as `0,2,1`, each below the count; none of the empty word.
 pub fn gusts<'a>(heap: Global, count: u8, word: &'a str) -> Result<Vec<u8>, Fault<'a>>
-    ensures { IfOk result (λ v. All (λ w. w < count) v.items) }
+    ensures { IfOk result (λ v. AllByRecursion (λ w. w < count) v.items) }
 {
     let mut gusts = Vec::new(heap);
     if word.is_empty() {

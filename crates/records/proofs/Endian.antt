@@ -1,6 +1,6 @@
 -- A number is the one that its bytes write, and bytes are those of the number that they write.
 use Rattle.std.proofs.Common.{◌≡◌, ℕ, zero, suc, ◌+◌, ◌*◌, ◌/◌, ◌%◌, ◌^◌, ◌<◌, List, [], ◌∷◌, length, refl, ap, ◌∙◌, pow-suc, arith, w32}
-use Rattle.std.specs.List.{AllByRecursion as All}
+use Rattle.std.specs.List.{AllByRecursion}
 use Rattle.std.proofs.lemmas.Int.{of_z-to_z}
 use Rattle.records.specs.LittleEndian.{le, number, signed_le, signed_number}
 
@@ -15,14 +15,14 @@ number_le (suc width) n h =
     let e = number_le width (n / 256) (omega arith) in
     omega arith
 
-pub le_number : (bs : List ℕ) → All (λ b. b < 256) bs → le (length bs) (number bs) ≡ bs
+pub le_number : (bs : List ℕ) → AllByRecursion (λ b. b < 256) bs → le (length bs) (number bs) ≡ bs
 le_number [] h = refl
 le_number (b ∷ bs) (small, rest) =
     let low : (b + number bs * 256) % 256 ≡ b = omega arith in
     let high : (b + number bs * 256) / 256 ≡ number bs = omega arith in
     rw (low, high) (ap (λ xs. b ∷ xs) (le_number bs rest))
 
-pub number_small : (bs : List ℕ) → All (λ b. b < 256) bs → number bs < 256 ^ length bs
+pub number_small : (bs : List ℕ) → AllByRecursion (λ b. b < 256) bs → number bs < 256 ^ length bs
 number_small [] h = omega arith
 number_small (b ∷ bs) (small, rest) =
     let p : 256 ^ suc (length bs) ≡ 256 ^ length bs * 256 = pow-suc 256 (length bs) in
@@ -30,7 +30,7 @@ number_small (b ∷ bs) (small, rest) =
     omega arith
 
 -- the four bytes of the signed number that they write
-pub signed_le_number : (bs : List ℕ) → All (λ b. b < 256) bs → length bs ≡ 4 → signed_le (signed_number bs) ≡ bs
+pub signed_le_number : (bs : List ℕ) → AllByRecursion (λ b. b < 256) bs → length bs ≡ 4 → signed_le (signed_number bs) ≡ bs
 signed_le_number bs h e =
     let small : number bs < 2 ^ 32 = rw e at (number_small bs h) in
     ap (le 4) (of_z-to_z w32 (number bs) small) ∙ (rw e at (le_number bs h))
