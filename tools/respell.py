@@ -13,8 +13,10 @@ import re
 import sys
 
 NAME = r"[^\W\d_][\w']*"
-DASHED = re.compile(rf"(?<![\w'·-]){NAME}(?:-[\w']+)+(?![\w'-])")
+DASHED = re.compile(rf"(?<![\w'·-])(?:{NAME}(?:-[\w']+)+|[A-Z][a-z]+(?:_[a-z]+)+)(?![\w'-])")
 DECLARED = re.compile(rf"^[ \t]*(?:(?:abbrev|unfoldable|pub|record|data|\|)[ \t]+)*({NAME}(?:-[\w']+)+)(?=[ \t]*(?:[:({{]))(?P<rest>.*)$", re.M)
+# A type that was left half way, in two words with a line between them.
+HALF = re.compile(r"^[ \t]*(?:pub[ \t]+)*(?:record|data|(?:abbrev|unfoldable)(?:[ \t]+pub)?)[ \t]+([A-Z][a-z]+(?:_[a-z]+)+)(?=[ \t]*[:({])", re.M)
 LIBRARY = re.compile(r"^[ \t]*(?:pub )?(?:ghost )?use (?:Rattle\.std|Rattle\.core|lib|borrow|Prim|denote|mathlib|bundle)\b[^{\n]*\.\{([^}]*)\}", re.M)
 ALIAS = re.compile(rf"^[ \t]*(?:pub )?(?:ghost )?use Rattle\.(?!std\b|core\b)[^{{\n]*\.\{{([^}}]*)\}}", re.M)
 STRING = re.compile(r'"(?:[^"\\]|\\.)*"')
@@ -22,7 +24,7 @@ STRING = re.compile(r'"(?:[^"\\]|\\.)*"')
 
 def spelled(name):
     if name[0].isupper():
-        return "".join(part[:1].upper() + part[1:] for part in name.split("-"))
+        return "".join(part[:1].upper() + part[1:] for part in re.split("[-_]", name))
     return name.replace("-", "_")
 
 
@@ -47,6 +49,8 @@ def declared():
                 names.setdefault(name, set()).add(str(path))
         if path.suffix != ".antt":
             continue
+        for found in HALF.finditer(path.read_text()):
+            names.setdefault(found.group(1), set()).add(str(path))
         for found in DECLARED.finditer(path.read_text()):
             if re.match(r"\s*:\s*(goal|given)\.", found.group("rest")):
                 continue

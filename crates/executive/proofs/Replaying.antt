@@ -3,7 +3,7 @@ use Rattle.std.proofs.Common.{◌≡◌, ℕ, List, [], ◌∷◌, ◌++◌, sym
 use Rattle.guard.specs.Meaning.{Meaning, Laws}
 use Rattle.history.specs.History.{History}
 use Rattle.history.specs.Due.{due, Right}
-use Rattle.history.specs.Use.{Used, Goes_on}
+use Rattle.history.specs.Use.{Used, GoesOn}
 use Rattle.history.specs.Findings.{Findings}
 use Rattle.history.specs.declared.calls.Call.{Call}
 use Rattle.history.specs.declared.calls.Answer.{Answer}
@@ -45,7 +45,7 @@ going_more {G} {S} means g n cs ys c y d e k t =
     let m = means g in
     let u : Took m c y d e = subst (λ q. Took (means q) c y d e) k.guard_is t in
     let h = paired [] cs ys in
-    let w : Goes_on m n (held d) c y (held e) h = subst (λ (i : ℕ). Used m i (held d) h → Goes_on m i (held d) c y (held e) h) k.mission_is (u.history h) k.used in
+    let w : GoesOn m n (held d) c y (held e) h = subst (λ (i : ℕ). Used m i (held d) h → GoesOn m i (held d) c y (held e) h) k.mission_is (u.history h) k.used in
     let z : answers_to m n cs ≡ ys = sym k.answers_are in
     record {
       guard_is = u.guard_is ∙ k.guard_is;

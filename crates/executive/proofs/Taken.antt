@@ -5,7 +5,7 @@ use Rattle.guard.specs.Decision.{state_follows, charge_follows}
 use Rattle.history.specs.History.{History}
 use Rattle.history.specs.Due.{same_ticket}
 use Rattle.history.specs.Outcome.{Held, Outcome, outcome, at}
-use Rattle.history.specs.Use.{Used, Goes_on}
+use Rattle.history.specs.Use.{Used, GoesOn}
 use Rattle.history.specs.declared.calls.Call.{Call}
 use Rattle.history.specs.declared.calls.Call.TheVariants.{Begin, Decide, Spend, Observe, Close}
 use Rattle.history.specs.declared.calls.Answer.{Answer}
@@ -53,8 +53,8 @@ module _ {S : Type 0} (m : Meaning S) (mission : ℕ) (e : Held S) where
 pub own_answer : {S : Type 0} (m : Meaning S) (mission : ℕ) (e : Held S) (c : Call S) (a : Answer) → a ≡ (outcome m mission e c).answer → Own c a
 own_answer m mission e c a d = subst (Own c) (sym d) (own_at m mission e e.phase c)
 
-pub goes_on_so : {G S : Type 0} {gs : Ghosts G S} (m : Meaning S) → Laws m → (c : Call S) (a : Answer) (d e : Executive G S gs) → a ≡ (outcome m d.mission (held d) c).answer → held e ≡ (outcome m d.mission (held d) c).held → (h : History S) → Used m d.mission (held d) h → Goes_on m d.mission (held d) c a (held e) h
+pub goes_on_so : {G S : Type 0} {gs : Ghosts G S} (m : Meaning S) → Laws m → (c : Call S) (a : Answer) (d e : Executive G S gs) → a ≡ (outcome m d.mission (held d) c).answer → held e ≡ (outcome m d.mission (held d) c).held → (h : History S) → Used m d.mission (held d) h → GoesOn m d.mission (held d) c a (held e) h
 goes_on_so m laws c a d e p q h u =
-    subst (λ (a : Answer). Goes_on m d.mission (held d) c a (held e) h) (sym p)
-    (subst (λ (k : Held _). Goes_on m d.mission (held d) c (outcome m d.mission (held d) c).answer k h) (sym q)
+    subst (λ (a : Answer). GoesOn m d.mission (held d) c a (held e) h) (sym p)
+    (subst (λ (k : Held _). GoesOn m d.mission (held d) c (outcome m d.mission (held d) c).answer k h) (sym q)
     (goes_on m d.mission (held d) h u laws c))

@@ -3,7 +3,7 @@ use Rattle.std.specs.Prelude.{◌≡◌, ℕ, Ok, Err, Result}
 use Rattle.guard.specs.Meaning.{Meaning}
 use Rattle.history.specs.History.{History}
 use Rattle.history.specs.Outcome.{outcome}
-use Rattle.history.specs.Use.{Used, Goes_on}
+use Rattle.history.specs.Use.{Used, GoesOn}
 use Rattle.history.specs.declared.calls.Totals.{Totals}
 use Rattle.history.specs.declared.calls.Call.{Call}
 use Rattle.history.specs.declared.calls.Call.TheVariants.{Begin, Decide, Spend, Observe, Close}
@@ -27,7 +27,7 @@ pub record Took {G S : Type 0} {gs : Ghosts G S} (m : Meaning S) (c : Call S) (a
   -- a refusal changes nothing
   pub unaltered : Unaltered a d e
   -- whatever history led here, it goes on with this call, the answer is the due one, and the findings hold
-  pub history : (h : History S) → Used m d.mission (held d) h → Goes_on m d.mission (held d) c a (held e) h
+  pub history : (h : History S) → Used m d.mission (held d) h → GoesOn m d.mission (held d) c a (held e) h
 
 -- the answers by the results of the five calls
 abbrev pub accepting : {A : Type 0} → Result A CallRefusal → Answer

@@ -7,7 +7,7 @@ use Rattle.guard.specs.Decision.{state_follows, charge_follows}
 use Rattle.history.specs.History.{History, Stage, parked, ready, granted, moving, closed, stage, last, grant}
 use Rattle.history.specs.Due.{has_place, choice, same_ticket, of_reading, of_grant, in_place, due}
 use Rattle.history.specs.Outcome.{Held, Outcome, refusing, in_phase, ticket, is_gain, is_loss, after_giving, closing, at, outcome, unused}
-use Rattle.history.specs.Use.{Stands, Used, Goes_on}
+use Rattle.history.specs.Use.{Stands, Used, GoesOn}
 use Rattle.history.specs.declared.calls.Ticket.{Ticket}
 use Rattle.history.specs.declared.calls.Call.{Call}
 use Rattle.history.specs.declared.calls.Call.TheVariants.{Begin, Decide, Spend, Observe, Close}
@@ -166,7 +166,7 @@ module _ {S : Type 0} (m : Meaning S) (mission : ℕ) (d : Held S) (h : History 
   going (Moving r a) s Close = going_close moving s.0 refl
   going Closed s c = going_wrong c closed s refl
 
-  pub goes_on : Laws m → (c : Call S) → Goes_on m mission d c (outcome m mission d c).answer (outcome m mission d c).held h
+  pub goes_on : Laws m → (c : Call S) → GoesOn m mission d c (outcome m mission d c).answer (outcome m mission d c).held h
   unfolding Going
   goes_on laws c =
       let v = going d.phase u.stands c in

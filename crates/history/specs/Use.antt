@@ -31,7 +31,7 @@ pub record Used {S : Type 0} (m : Meaning S) (mission : ℕ) (e : Held S) (h : H
   pub losses_is : e.losses ≡ lost h
 
 -- whatever history led to d, it goes on with the call c and the answer a, and then e is held
-pub record Goes_on {S : Type 0} (m : Meaning S) (mission : ℕ) (d : Held S) (c : Call S) (a : Answer) (e : Held S) (h : History S) : Type 0 where
+pub record GoesOn {S : Type 0} (m : Meaning S) (mission : ℕ) (d : Held S) (c : Call S) (a : Answer) (e : Held S) (h : History S) : Type 0 where
   pub used : Used m mission e (record { call = c; answer = a } ∷ h)
   pub due_is : a ≡ due m mission h c
   pub findings : Findings m mission (record { call = c; answer = a } ∷ h)
