@@ -25,7 +25,7 @@ STRING = re.compile(r'"(?:[^"\\]|\\.)*"')
 def spelled(name):
     if name[0].isupper():
         return "".join(part[:1].upper() + part[1:] for part in re.split("[-_]", name))
-    return name.replace("-", "_")
+    return re.sub("(?<=[a-z])[A-Z]", lambda found: "_" + found.group(0).lower(), name.replace("-", "_"))
 
 
 # A name that a file gives to a definition of this repository where it imports it.

@@ -8,13 +8,13 @@ use Rattle.guard.specs.declared.geometry.Point.{Point}
 use Rattle.guard.specs.declared.geometry.Region.{Region}
 use Rattle.guard.specs.Regions.{Between, Inside, Within, Touching, between, holds, encloses, larger, touches}
 
-decides_leZ : (a b : ℤ) → Decides (le_z a b) (a ≤ℤ b)
-decides_leZ a b = (λ e. grind (arith, ints), λ h. grind (arith, ints))
+decides_le_z : (a b : ℤ) → Decides (le_z a b) (a ≤ℤ b)
+decides_le_z a b = (λ e. grind (arith, ints), λ h. grind (arith, ints))
 
 decides_between : (low c high : ℤ) → Decides (between low c high) (Between low c high)
 unfolding between
 decides_between low c high =
-    Decides-like _ (λ h. record { from = h.0; to = h.1 }) (λ h. (h.from, h.to)) (Decides-and _ _ (decides_leZ low c) (decides_leZ c high))
+    Decides-like _ (λ h. record { from = h.0; to = h.1 }) (λ h. (h.from, h.to)) (Decides-and _ _ (decides_le_z low c) (decides_le_z c high))
 
 pub decides_holds : (b : Region) (p : Point) → Decides (holds b p) (Inside p b)
 decides_holds b p =

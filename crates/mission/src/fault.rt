@@ -127,8 +127,11 @@ impl fmt::Display for Fault<'_> {
 }
 
 impl From<io::Error> for Fault<'_> {
-    fn from(_e: io::Error) -> Self {
-        Fault::Output
+    fn from(e: io::Error) -> Self {
+        match e.kind() {
+            io::ErrorKind::OutOfMemory => Fault::Memory,
+            _ => Fault::Output,
+        }
     }
 }
 

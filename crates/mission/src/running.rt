@@ -39,10 +39,7 @@ fn run_telling<'a, G: Guard>(
     tape: &[u8],
     log: &mut [u8],
 ) -> Result<Ended, Fault<'a>> {
-    let mut teller = match Teller::new(rt.alloc(), rt.stdout()) {
-        Ok(teller) => teller,
-        Err(_) => return Err(Fault::Memory),
-    };
+    let mut teller = Teller::new(rt.alloc(), rt.stdout())?;
     let ended = run::run_watched(e, tape, log, &mut teller);
     // a run does not tell of a record that cannot be read, and where the log has no room for its refusal, not even its number
     match ended.number {
