@@ -9,7 +9,7 @@ use Rattle.guard.specs.Regions.{Inside, Within, holds, touches}
 use Rattle.guard.specs.Meaning.{Meaning, Laws}
 use Rattle.guard.proofs.Regions.{decides_holds, decides_touches}
 use Rattle.guard.proofs.Decision.{T_true, true_T}
-use Rattle.layers.specs.Fence.{outside, apart, clear, fenced}
+use Rattle.layers.specs.Fence.{outside, apart, clear, placed_outside, covers_clear, fenced}
 use Rattle.layers.specs.Layered.{Kept, layered_laws}
 
 not_held : (b c : Region) (p : Point) → Inside p c → touches b c ≡ false → holds b p ≡ false
@@ -48,13 +48,12 @@ clear_within (b ∷ bs) c d w e =
     let h = and_parts (apart b c) (clear bs c) e in
     and_from _ _ (untouched_apart b d (not_touched b c d w (apart_untouched b c h.0))) (clear_within bs c d w h.1)
 
+pub fence_kept : {S : Type 0} (bs : List Region) (m : Meaning S) → Laws m → Kept m (placed_outside bs m) (covers_clear bs m)
+fence_kept bs m laws = record {
+  safe = λ r h k. true_T _ (outside_if_clear bs (m.cover r.state) (m.place r.state) (laws.placed r h) (T_true _ k));
+  stays = λ r t h k f. true_T _ (clear_within bs (m.cover r.state) (m.cover t.state) (laws.covered r t h f) (T_true _ k));
+  charged = λ r p l k. k;
+}
+
 pub fenced_laws : {S : Type 0} (bs : List Region) (m : Meaning S) → Laws m → Laws (fenced bs m)
-fenced_laws {S} bs m laws =
-    let safely : Reading S → Bool = λ r. outside bs (m.place r.state) in
-    let recoverably : Reading S → Bool = λ r. clear bs (m.cover r.state) in
-    let kept : Kept m safely recoverably = record {
-      safe = λ r h k. true_T _ (outside_if_clear bs (m.cover r.state) (m.place r.state) (laws.placed r h) (T_true _ k));
-      stays = λ r t h k f. true_T _ (clear_within bs (m.cover r.state) (m.cover t.state) (laws.covered r t h f) (T_true _ k));
-      charged = λ r p l k. k;
-    } in
-    layered_laws m safely recoverably laws kept
+fenced_laws bs m laws = layered_laws m (placed_outside bs m) (covers_clear bs m) laws (fence_kept bs m laws)

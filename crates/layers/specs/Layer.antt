@@ -19,3 +19,7 @@ layered safely recoverably m = record {
   numbers = m.numbers;
   made = m.made;
 }
+
+-- what a guard of the meaning m means under a layer whose two conditions are over the meaning below them
+abbrev pub under : {S : Type 0} → (Meaning S → Reading S → Bool) → (Meaning S → Reading S → Bool) → Meaning S → Meaning S
+under safely recoverably m = layered (safely m) (recoverably m) m

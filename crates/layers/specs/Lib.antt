@@ -1,6 +1,7 @@
 pub mod Layer
 pub mod Fence
 pub mod Battery
+pub mod Upright
 pub mod Refusals
 pub mod Drafts
 pub mod Reserved

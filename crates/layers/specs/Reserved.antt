@@ -3,7 +3,7 @@ use Rattle.std.specs.Prelude.{◌≡◌, ℕ, ◌+◌, ◌*◌, ◌<◌, ◌≤�
 use Rattle.std.proofs.Common.{ap, sym, ◌∙◌, inl, inr, mul-le-mul_left, mul-suc, arith, leb→le, le→leb}
 use Rattle.guard.specs.declared.reading.Reading.{Reading}
 use Rattle.guard.specs.Meaning.{Meaning, Laws, FallsBack}
-use Rattle.layers.specs.Battery.{reserved}
+use Rattle.layers.specs.Battery.{charge_left, charge_left_at_rest, reserved}
 use Rattle.layers.specs.Layered.{Kept, layered_laws}
 
 -- each tick of the way to rest takes no more than the fallback's draw
@@ -24,15 +24,15 @@ module _ {S : Type 0} (n : ℕ) (m : Meaning S) (laws : Laws m) where
         | inr z ↦ let free = laws.free_at_rest r h z.0 in let same : c * j ≡ c * i = ap (λ (x : ℕ). c * x) (z.1 ∙ sym z.0) in omega arith
       ]
 
-pub reserved_laws : {S : Type 0} (n : ℕ) (m : Meaning S) → Laws m → Laws (reserved n m)
-reserved_laws {S} n m laws =
-    let c = m.fallback_draw in
-    let safely : Reading S → Bool = λ r. leb n r.charge in
-    let recoverably : Reading S → Bool = λ r. leb (n + c * m.ticks r.state) r.charge in
-    let enough : (r : Reading S) → T (recoverably r) → n + c * m.ticks r.state ≤ r.charge = λ r k. leb→le _ r.charge k in
-    let kept : Kept m safely recoverably = record {
-      safe = λ r h k. le→leb n r.charge (let e = enough r k in omega arith);
-      stays = λ r t h k f. le→leb _ t.charge (enough_left n m laws r t h k f);
-      charged = λ r p l k. le→leb _ p (let e = enough r k in omega arith);
-    } in
-    layered_laws m safely recoverably laws kept
+  pub reserve_kept : Kept m (charge_left n m) (charge_left_at_rest n m)
+  reserve_kept =
+      let c = m.fallback_draw in
+      let enough : (r : Reading S) → T (charge_left_at_rest n m r) → n + c * m.ticks r.state ≤ r.charge = λ r k. leb→le _ r.charge k in
+      record {
+        safe = λ r h k. le→leb n r.charge (let e = enough r k in omega arith);
+        stays = λ r t h k f. le→leb _ t.charge (enough_left r t h k f);
+        charged = λ r p l k. le→leb _ p (let e = enough r k in omega arith);
+      }
+
+  pub reserved_laws : Laws (reserved n m)
+  reserved_laws = layered_laws m (charge_left n m) (charge_left_at_rest n m) laws reserve_kept

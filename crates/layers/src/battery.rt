@@ -1,94 +1,60 @@
-ghost use Rattle.std.specs.Prelude.{◌≡◌, ◌≤◌, ◌&&◌};
-ghost use Rattle.layers.specs.Battery.{reserved};
-ghost use Rattle.layers.specs.Reserved.{reserved_laws};
+ghost use Rattle.std.specs.Prelude.{◌≡◌, ◌+◌, ◌*◌, nat_le};
+ghost use Rattle.layers.specs.Battery.{charge_left, charge_left_at_rest, reserved};
+ghost use Rattle.layers.specs.Reserved.{reserve_kept};
 
+use crate::layer::Layer;
+use crate::layered::Layered;
 use guard::Guard;
-use guard::geometry::{Point, Region};
 use guard::reading::Reading;
-use guard::refusal::StateRefusal;
 
-// A layer that keeps a reserve of charge.
-#[derive(Drop)]
-pub struct Battery<G> {
-    below: G,
-    reserve: u16,
+// The charge that a battery keeps.
+#[derive(Clone, Copy, Debug, PartialEq, Eq)]
+pub struct Reserve {
+    pub charge: u16,
 }
+
+// A guard with a battery that keeps a reserve of charge.
+pub type Battery<G> = Layered<G, Reserve>;
 
 impl<G: Guard> Battery<G> {
     // The guard with a battery that keeps this reserve.
     pub fn new(below: G, reserve: u16) -> Battery<G>
         ensures below { result.below ≡ below }
-        ensures reserve { result.reserve ≡ reserve }
+        ensures reserve { result.layer.charge ≡ reserve }
+        ensures meaning { ⟦<Battery<G> as Guard>⟧.meaning result ≡ reserved reserve (G.Guard.meaning below) }
     {
-        Battery { below, reserve }
+        Layered::over(below, Reserve { charge: reserve })
     }
 }
 
-impl<G: Guard> Guard for Battery<G> {
-    type State = G::State;
+// Whether the charge is at least the reserve after so many ticks of this draw.
+fn lasts(charge: u16, reserve: u16, draw: u16, ticks: u16) -> bool
+    ensures { result ≡ nat_le (reserve + draw * ticks) charge }
+{
+    u64::from(reserve) + u64::from(draw) * u64::from(ticks) <= u64::from(charge)
+}
 
-    const ACTIONS: u8 = G::ACTIONS;
+impl<G: Guard> Layer<G> for Reserve {
+    ghost safely = { λ l. charge_left l.charge };
 
-    const GUSTS: u8 = G::GUSTS;
+    ghost recoverably = { λ l. charge_left_at_rest l.charge };
 
-    ghost meaning = { λ b. reserved b.reserve (G.Guard.meaning b.below) };
+    ghost keeps = { λ l. reserve_kept l.charge };
 
-    ghost lawful = { λ b. reserved_laws b.reserve (G.Guard.meaning b.below) (G.Guard.lawful b.below) };
-
-    fn action_count(&self) -> u8 {
-        self.below.action_count()
-    }
-
-    fn gust_count(&self) -> u8 {
-        self.below.gust_count()
-    }
-
-    fn after(&self, s: G::State, a: u8, w: u8) -> G::State {
-        self.below.after(s, a, w)
-    }
-
-    fn draw(&self, s: G::State, a: u8) -> u16 {
-        self.below.draw(s, a)
-    }
-
-    fn place(&self, s: G::State) -> Point {
-        self.below.place(s)
-    }
-
-    fn cover(&self, s: G::State) -> Region {
-        self.below.cover(s)
-    }
-
-    fn ticks(&self, s: G::State) -> u16 {
-        self.below.ticks(s)
-    }
-
-    fn fallback(&self, s: G::State) -> u8 {
-        self.below.fallback(s)
-    }
-
-    fn fallback_draw(&self) -> u16 {
-        self.below.fallback_draw()
-    }
-
-    fn safe(&self, r: Reading<G::State>) -> bool
-        ensures { result ≡ (reserved self.now.reserve (G.Guard.meaning self.now.below)).safe r }
+    fn is_safe(&self, _below: &G, r: Reading<G::State>) -> bool
+        ensures { result ≡ charge_left self.now.charge (G.Guard.meaning _below.now) r }
     {
-        self.below.safe(r) && self.reserve <= r.charge
+        self.charge <= r.charge
     }
 
-    fn recoverable(&self, r: Reading<G::State>) -> bool
-        ensures { result ≡ (reserved self.now.reserve (G.Guard.meaning self.now.below)).recoverable r }
+    fn is_recoverable(&self, below: &G, r: Reading<G::State>) -> bool
+        ensures { result ≡ charge_left_at_rest self.now.charge (G.Guard.meaning below.now) r }
     {
-        let way = u64::from(self.below.fallback_draw()) * u64::from(self.below.ticks(r.state));
-        self.below.recoverable(r) && u64::from(self.reserve) + way <= u64::from(r.charge)
-    }
-
-    fn numbers(&self, s: G::State) -> (i32, i32, i32) {
-        self.below.numbers(s)
-    }
-
-    fn state(&self, n: (i32, i32, i32)) -> Result<G::State, StateRefusal> {
-        self.below.state(n)
+        lasts(
+            r.charge,
+            self.charge,
+            below.fallback_draw(),
+            below.ticks(r.state),
+        )
     }
 }

@@ -3,3 +3,5 @@
 pub mod battery;
 pub mod draft;
 pub mod fence;
+pub mod layer;
+pub mod layered;

@@ -4,7 +4,7 @@ ghost use Rattle.layers.specs.Refusals.{numbered};
 use guard::refusal::Refusal;
 
 // Why a region is not added to a draft.
-#[derive(Clone, Copy)]
+#[derive(Clone, Copy, Debug, PartialEq, Eq)]
 pub enum DraftRefusal {
     // an upper coordinate is below its lower one
     Inverted = 1,

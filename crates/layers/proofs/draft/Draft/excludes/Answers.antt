@@ -1,9 +1,14 @@
-use Rattle.std.proofs.Common.{not, arith}
+use Rattle.std.proofs.Common.{not, sym, ◌∙◌, rules, tests}
+use Rattle.std.proofs.lemmas.Iterator.Search.{all_from_yields_List}
+use Rattle.std.proofs.lemmas.Iterator.{YieldsList-from_slice}
+use Rattle.std.proofs.lemmas.List.Folds.{list_all-map}
+use Rattle.layers.specs.declared.draft.keep_out.KeepOut.{KeepOut}
 use Rattle.guard.specs.Regions.{holds}
-use Rattle.layers.proofs.Regions.{told_all}
 use Rattle.layers.proofs.draft.Draft.excludes.Goals as goal
 
 pub returns : goal.returns
 returns c =
-    let d = c.args.self.now in
-    told_all c.each_excludes.result d.count (λ b. not (holds b c.args.p)) d.regions (omega (arith, d.few, d.room)) c.each_excludes.ensures
+    let p = c.args.p in
+    let ks = c.args.self.now.regions.items in
+    all_from_yields_List (λ (k : KeepOut). not (holds k.region p)) _ _ c.all.result c.all.ensures.ran (YieldsList-from_slice ks cc) (λ x b q k. search (rules, tests))
+    ∙ sym (list_all-map (λ b. not (holds b p)) (λ (k : KeepOut). k.region) ks)
