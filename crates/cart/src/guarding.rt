@@ -40,7 +40,7 @@ impl Cart {
         ensures value { lengths result ≡ rail length }
         ensures number { IfErr result (λ e. numbered e ≡ 3) }
     {
-        if 1 <= length && length <= MAX_LENGTH {
+        if (1..=MAX_LENGTH).contains(&length) {
             Ok(Cart { length })
         } else {
             Err(MakingRefusal::RailLength)
@@ -123,10 +123,10 @@ impl Guard for Cart {
     }
 
     fn numbers(&self, s: CartState) -> (i32, i32, i32) {
-        s.numbers()
+        s.into()
     }
 
     fn state(&self, n: (i32, i32, i32)) -> Result<CartState, StateRefusal> {
-        CartState::made(n).ok_or(StateRefusal::NoSuchState)
+        CartState::try_from(n)
     }
 }

@@ -20,12 +20,16 @@ cell_at x y z = record {
 abbrev pub step : ℕ → ℕ → ℕ → ℤ
 step up down a = cond (a == up) (pos 1) (cond (a == down) (negsuc 0) (pos 0))
 
--- the pushes of gust w: its third, and what remains of it, each less 1
+-- the push along an axis of 0, 1 or 2: that number less 1
+abbrev pub push : ℕ → ℤ
+push n = pos n -ℤ pos 1
+
+-- the pushes of gust w: its third along x, and what remains of it along y
 abbrev pub push_x : ℕ → ℤ
-push_x w = pos (w / 3) -ℤ pos 1
+push_x w = push (w / 3)
 
 abbrev pub push_y : ℕ → ℤ
-push_y w = pos (w % 3) -ℤ pos 1
+push_y w = push (w % 3)
 
 abbrev pub climbed : ℕ → ℕ → ℕ
 climbed a z = cond (a == 5) (z + 1) (cond (a == 6) (z - 1) z)

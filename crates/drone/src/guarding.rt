@@ -1,27 +1,34 @@
 ghost use Rattle.std.specs.Prelude.{◌≡◌, IfErr, Decides};
 ghost use Rattle.guard.specs.Driven.{Withstands};
 ghost use Rattle.guard.specs.Regions.{encloses};
-ghost use Rattle.drone.specs.Making.{size, sizes, sized};
+ghost use Rattle.drone.specs.Making.{size, sizes, sized, TakesSide};
 ghost use Rattle.drone.specs.Meaning.{drone as means, hall as room, cover as covered, place as placed};
-ghost use Rattle.drone.specs.HallSize.{fits as fitting};
 ghost use Rattle.machines.specs.Refusals.{numbered};
 ghost use Rattle.drone.specs.Laws.{drone_laws, fits_below};
 
-use super::Drone;
 use super::state::DroneState;
 use super::state::moves::{ACTIONS, DESCEND, GUSTS, point};
+use super::{Drone, Side};
 use guard::Guard;
 use guard::geometry::{Point, Region};
 use guard::reading::Reading;
 use guard::refusal::StateRefusal;
 use machines::making::MakingRefusal;
 
-const MAX_SIZE: i32 = 63;
+const MAX_SIDE: i32 = 63;
 
-fn fits(n: i32) -> bool
-    ensures { result ≡ fitting n }
-{
-    1 <= n && n <= MAX_SIZE
+impl TryFrom<i32> for Side {
+    type Error = MakingRefusal;
+
+    ghost try_from_gives = { TakesSide };
+
+    fn try_from(length: i32) -> Result<Side, MakingRefusal> {
+        if (1..=MAX_SIDE).contains(&length) {
+            Ok(Side { length })
+        } else {
+            Err(MakingRefusal::HallSize)
+        }
+    }
 }
 
 impl Drone {
@@ -30,11 +37,11 @@ impl Drone {
         ensures value { sizes result ≡ sized x y z }
         ensures number { IfErr result (λ e. numbered e ≡ 4) }
     {
-        if fits(x) && fits(y) && fits(z) {
-            Ok(Drone { x, y, z })
-        } else {
-            Err(MakingRefusal::HallSize)
-        }
+        Ok(Drone {
+            x: Side::try_from(x)?,
+            y: Side::try_from(y)?,
+            z: Side::try_from(z)?,
+        })
     }
 
     fn hall(&self) -> Region
@@ -42,7 +49,7 @@ impl Drone {
     {
         Region {
             low: point(0, 0, 0),
-            high: point(self.x, self.y, self.z),
+            high: point(self.x.length, self.y.length, self.z.length),
         }
     }
 
@@ -63,7 +70,7 @@ impl Guard for Drone {
 
     ghost meaning = { λ d. means (size d) };
 
-    ghost lawful = { λ d. drone_laws (size d) (record { x = fits_below _ d.wide; y = fits_below _ d.long }) };
+    ghost lawful = { λ d. drone_laws (size d) (record { x = fits_below _ d.x.fit; y = fits_below _ d.y.fit }) };
 
     fn action_count(&self) -> u8 {
         Self::ACTIONS
@@ -116,10 +123,10 @@ impl Guard for Drone {
     }
 
     fn numbers(&self, s: DroneState) -> (i32, i32, i32) {
-        s.numbers()
+        s.into()
     }
 
     fn state(&self, n: (i32, i32, i32)) -> Result<DroneState, StateRefusal> {
-        DroneState::made(n).ok_or(StateRefusal::NoSuchState)
+        DroneState::try_from(n)
     }
 }

@@ -10,13 +10,10 @@ use Rattle.guard.proofs.Regions.{within_by_corners, same_point}
 use Rattle.machines.specs.Held.{held}
 use Rattle.machines.specs.Rolling.{on_axis, stretch, slowed, braking_cover}
 
-pub slowed_forward : (n : ℕ) (v : ℤ) → pos 0 ≤ℤ v → slowed n v ≡ int_max (v -ℤ pos n) (pos 0)
-slowed_forward n (pos v) h = omega (arith, ints, clamps)
-slowed_forward n (negsuc v) h = absurd h.le
-
-pub slowed_backward : (n : ℕ) (v : ℤ) → v <ℤ pos 0 → slowed n v ≡ int_min (v +ℤ pos n) (pos 0)
-slowed_backward n (pos v) h = omega (arith, ints, clamps)
-slowed_backward n (negsuc v) h = omega (arith, ints, clamps)
+-- what a brake takes off is the speed, held within what the brake can take off
+pub slowed_held : (n : ℕ) (v : ℤ) → v -ℤ held n v ≡ slowed n v
+slowed_held n (pos v) = omega (arith, ints, clamps)
+slowed_held n (negsuc v) = omega (arith, ints, clamps)
 
 pub slowed_size : (n : ℕ) (v : ℤ) → nat_abs (slowed n v) ≡ nat_abs v - n
 slowed_size n (pos v) = refl

@@ -4,7 +4,7 @@ ghost use Rattle.machines.specs.Refusals.{numbered};
 use guard::refusal::Refusal;
 
 // Why a machine is not made.
-#[derive(Clone, Copy)]
+#[derive(Clone, Copy, Debug, PartialEq, Eq)]
 pub enum MakingRefusal {
     // a rail's length is not from 1 to 100,000
     RailLength = 3,

@@ -1,10 +1,13 @@
-ghost use Rattle.std.specs.Prelude.{◌≡◌, ◌<◌, ◌≤◌, unsigned_abs};
-ghost use Rattle.drone.specs.States.{cell_at, step as stepped, push_x, push_y, climbed as risen, x_after, y_after, flown as blown, lifted as raised, after as next};
+ghost use Rattle.std.specs.Prelude.{◌≡◌, ◌<◌, ◌≤◌, ◌+ℤ◌, unsigned_abs};
+ghost use Rattle.std.specs.Option.{ok_or};
+ghost use Rattle.guard.specs.declared.refusal.StateRefusal.TheVariants.{NoSuchState};
+ghost use Rattle.drone.specs.States.{cell_at, step as stepped, push, climbed as risen, flown as blown, lifted as raised, after as next};
 ghost use Rattle.drone.specs.States.{draw as drawn, numbers as named, made};
-ghost use Rattle.drone.specs.Meaning.{point as located, low_corner, high_corner, cover as covered, place as placed};
+ghost use Rattle.drone.specs.Meaning.{point as located, cover as covered, place as placed};
 
 use super::DroneState;
 use guard::geometry::{Point, Region};
+use guard::refusal::StateRefusal;
 
 const MAX_XY: i32 = 1000;
 
@@ -46,34 +49,12 @@ fn step(up: u8, down: u8, a: u8) -> i32
     }
 }
 
-// The pushes of a gust along x and y.
-fn pushed_x(w: u8) -> i32
-    requires { w < 9 }
-    ensures value { result ≡ push_x w }
-    ensures bound { unsigned_abs result ≤ 1 }
+// The coordinate after a step and a gust's push along its axis.
+fn shifted(c: i32, step: i32, third: u8) -> i32
+    requires { (unsigned_abs c ≤ 1000) × (unsigned_abs step ≤ 1) × (third < 3) }
+    ensures { result ≡ ((c +ℤ step) +ℤ push third) }
 {
-    (w / 3) as i32 - 1
-}
-
-fn pushed_y(w: u8) -> i32
-    requires { w < 9 }
-    ensures value { result ≡ push_y w }
-    ensures bound { unsigned_abs result ≤ 1 }
-{
-    (w % 3) as i32 - 1
-}
-
-fn climbed(a: u8, z: u16) -> u16
-    requires { z ≤ 1000 }
-    ensures { result ≡ risen a z }
-{
-    if a == CLIMB {
-        z + 1
-    } else if a == DESCEND {
-        z.saturating_sub(1)
-    } else {
-        z
-    }
+    c + step + (i32::from(third) - 1)
 }
 
 impl DroneState {
@@ -88,18 +69,14 @@ impl DroneState {
         }
     }
 
-    fn x_after(self, a: u8, w: u8) -> i32
-        requires { w < 9 }
-        ensures { result ≡ x_after self a w }
+    fn climbed(self, a: u8) -> u16
+        ensures { result ≡ risen a self.z }
     {
-        self.x + step(X_UP, X_DOWN, a) + pushed_x(w)
-    }
-
-    fn y_after(self, a: u8, w: u8) -> i32
-        requires { w < 9 }
-        ensures { result ≡ y_after self a w }
-    {
-        self.y + step(Y_UP, Y_DOWN, a) + pushed_y(w)
+        match a {
+            CLIMB => self.z + 1,
+            DESCEND => self.z.saturating_sub(1),
+            _ => self.z,
+        }
     }
 
     // Above the ground, the gust pushes in every action.
@@ -107,7 +84,9 @@ impl DroneState {
         requires { w < 9 }
         ensures { result ≡ blown self a w }
     {
-        DroneState::held(self.x_after(a, w), self.y_after(a, w), climbed(a, self.z))
+        let x = shifted(self.x, step(X_UP, X_DOWN, a), w / 3);
+        let y = shifted(self.y, step(Y_UP, Y_DOWN, a), w % 3);
+        DroneState::held(x, y, self.climbed(a))
     }
 
     // On the ground, only the climb moves, straight up.
@@ -150,30 +129,25 @@ impl DroneState {
     pub(crate) fn place(self) -> Point
         ensures { result ≡ placed self }
     {
-        point(self.x, self.y, self.z as i32)
+        point(self.x, self.y, i32::from(self.z))
     }
 
-    fn low_corner(self) -> Point
-        ensures { result ≡ low_corner self }
+    // The point as far from the cell along x and along y as `reach`, at the height z.
+    fn corner(self, reach: i32, z: i32) -> Point
+        requires { unsigned_abs reach ≤ 1000 }
+        ensures { result ≡ located (self.x +ℤ reach) (self.y +ℤ reach) z }
     {
-        let z = self.z as i32;
-        point(self.x - z, self.y - z, 0)
-    }
-
-    fn high_corner(self) -> Point
-        ensures { result ≡ high_corner self }
-    {
-        let z = self.z as i32;
-        point(self.x + z, self.y + z, z)
+        point(self.x + reach, self.y + reach, z)
     }
 
     // From the cell down to the ground, and as far to each side as down.
     pub(crate) fn cover(self) -> Region
         ensures { result ≡ covered self }
     {
+        let z = i32::from(self.z);
         Region {
-            low: self.low_corner(),
-            high: self.high_corner(),
+            low: self.corner(-z, 0),
+            high: self.corner(z, z),
         }
     }
 
@@ -182,21 +156,31 @@ impl DroneState {
     {
         self.z
     }
+}
 
-    pub(crate) fn numbers(self) -> (i32, i32, i32)
-        ensures { result ≡ named self }
-    {
-        (self.x, self.y, self.z as i32)
+impl From<DroneState> for (i32, i32, i32) {
+    ghost from_gives = { λ s n. n ≡ named s };
+
+    fn from(s: DroneState) -> (i32, i32, i32) {
+        (s.x, s.y, i32::from(s.z))
     }
+}
 
-    pub(crate) fn made(n: (i32, i32, i32)) -> Option<DroneState>
-        ensures { result ≡ made n }
-    {
+impl TryFrom<(i32, i32, i32)> for DroneState {
+    type Error = StateRefusal;
+
+    ghost try_from_gives = { λ n r. r ≡ ok_or (made n) NoSuchState };
+
+    fn try_from(n: (i32, i32, i32)) -> Result<DroneState, StateRefusal> {
         let (x, y, z) = n;
-        if x.unsigned_abs() <= 1000 && y.unsigned_abs() <= 1000 && 0 <= z && z <= 1000 {
-            Some(DroneState::held(x, y, z as u16))
+        if x.unsigned_abs() <= MAX_XY.unsigned_abs()
+            && y.unsigned_abs() <= MAX_XY.unsigned_abs()
+            && 0 <= z
+            && z <= i32::from(MAX_Z)
+        {
+            Ok(DroneState::held(x, y, z as u16))
         } else {
-            None
+            Err(StateRefusal::NoSuchState)
         }
     }
 }

@@ -7,4 +7,4 @@ pub returns : goal.returns
 returns c =
     let d = c.args.self.now in
     let e = c.lands_in_hall.ensures in
-    record { value = e; exact = Decides-at _ _ e (drone_exact (size d) (record { x = fits_below _ d.wide; y = fits_below _ d.long }) c.args.r) }
+    record { value = e; exact = Decides-at _ _ e (drone_exact (size d) (record { x = fits_below _ d.x.fit; y = fits_below _ d.y.fit }) c.args.r) }
