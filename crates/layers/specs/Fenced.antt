@@ -1,10 +1,9 @@
 -- A fence keeps the laws.
-use Rattle.std.specs.Prelude.{◌≡◌, Bool, true, false, List, [], ◌∷◌, refl}
+use Rattle.std.specs.Prelude.{◌≡◌, true, false, List, [], ◌∷◌, refl}
 use Rattle.std.proofs.Common.{inl, inr}
 use Rattle.std.proofs.lemmas.Bool.{and_parts, and_from, not-true, not_from_false, cases_Bool, both_ways}
 use Rattle.guard.specs.declared.geometry.Point.{Point}
 use Rattle.guard.specs.declared.geometry.Region.{Region}
-use Rattle.guard.specs.declared.reading.Reading.{Reading}
 use Rattle.guard.specs.Regions.{Inside, Within, holds, touches}
 use Rattle.guard.specs.Meaning.{Meaning, Laws}
 use Rattle.guard.proofs.Regions.{decides_holds, decides_touches}

@@ -1,5 +1,5 @@
 -- A battery keeps the laws.
-use Rattle.std.specs.Prelude.{◌≡◌, ℕ, ◌+◌, ◌*◌, ◌<◌, ◌≤◌, Bool, T, leb, nat_le}
+use Rattle.std.specs.Prelude.{◌≡◌, ℕ, ◌+◌, ◌*◌, ◌<◌, ◌≤◌, T, nat_le}
 use Rattle.std.proofs.Common.{ap, sym, ◌∙◌, inl, inr, mul-le-mul_left, mul-suc, arith, leb→le, le→leb}
 use Rattle.guard.specs.declared.reading.Reading.{Reading}
 use Rattle.guard.specs.Meaning.{Meaning, Laws, FallsBack}
