@@ -1,13 +1,12 @@
 -- The tests of the decision rule decide what can follow.
-use Rattle.std.proofs.Common.{◌≡◌, ℕ, ◌<◌, ◌≤◌, Bool, true, false, T, ltb, leb, ℤ, Some, Decides, sym, refl, ap, ◌∙◌, subst, inl, inr, arith}
-use lib.Signed.{le_z}
-use Rattle.std.proofs.lemmas.Int.{ints}
+use Rattle.std.proofs.Common.{◌≡◌, ℕ, ◌<◌, ◌≤◌, Bool, true, false, T, ltb, leb, Some, Decides, sym, refl, ap, ◌∙◌, subst, inl, inr, arith}
+use Rattle.std.proofs.lemmas.Bool.Decides.{Decides-and, Decides-like, Decides-int_eq}
 use Rattle.std.proofs.lemmas.Bool.{and_parts, and_from, and_cases, ltb-true, ltb-false, lt-ltb, le-leb, leb-true}
 use Rattle.guard.specs.declared.reading.Reading.{Reading}
 use Rattle.guard.specs.Bounded.{each, any}
 use Rattle.guard.specs.Meaning.{Meaning, Laws, Follows, Numbers, lowest_charge}
 use Rattle.guard.specs.Driven.{lowest}
-use Rattle.guard.specs.Decision.{admissible, calm, same_number, same_numbers, state_follows, charge_follows, follows, Admits, Endangers, Calm}
+use Rattle.guard.specs.Decision.{admissible, calm, same_numbers, state_follows, charge_follows, follows, Admits, Endangers, Calm}
 use Rattle.guard.proofs.Bounded.{each_at, each_all, each_but, any_at, any_some}
 
 pub T_true : (b : Bool) → T b → b ≡ true
@@ -21,25 +20,10 @@ true_T b e = rw e tt
 pub lowest_follows : {S : Type 0} (m : Meaning S) (r : Reading S) (a w : ℕ) → a < m.actions → w < m.gusts → Follows m r a (lowest m r a w)
 lowest_follows m r a w h k = record { action = h; gust = (w, k, refl); low = omega arith; high = omega arith }
 
-same_number_refl : (a : ℤ) → same_number a a ≡ true
-unfolding same_number
-same_number_refl a = and_from (le_z a a) (le_z a a) (grind (arith, ints)) (grind (arith, ints))
-
-same_number_eq : (a b : ℤ) → same_number a b ≡ true → a ≡ b
-unfolding same_number
-same_number_eq a b e = let p = and_parts (le_z a b) (le_z b a) e in grind (arith, ints)
-
-same_numbers_refl : (a : Numbers) → same_numbers a a ≡ true
-same_numbers_refl a = and_from _ _ (and_from _ _ (same_number_refl a.0) (same_number_refl a.1)) (same_number_refl a.2)
-
-same_numbers_eq : (a b : Numbers) → same_numbers a b ≡ true → a ≡ b
-same_numbers_eq a b e =
-    let p = and_parts _ _ e in
-    let q = and_parts _ _ p.0 in
-    let x = same_number_eq a.0 b.0 q.0 in
-    let y = same_number_eq a.1 b.1 q.1 in
-    let z = same_number_eq a.2 b.2 p.1 in
-    λ i. (x i, y i, z i)
+same_numbers_Decides : (a b : Numbers) → Decides (same_numbers a b) (a ≡ b)
+same_numbers_Decides a b =
+    Decides-like _ (λ h i. (h.0.0 i, h.0.1 i, h.1 i)) (λ e. ((ap (λ n. n.0) e, ap (λ n. n.1) e), ap (λ n. n.2) e))
+    (Decides-and _ _ (Decides-and _ _ (Decides-int_eq a.0 b.0) (Decides-int_eq a.1 b.1)) (Decides-int_eq a.2 b.2))
 
 module _ {S : Type 0} (m : Meaning S) (laws : Laws m) where
   -- different states have different numbers
@@ -89,12 +73,12 @@ module _ {S : Type 0} (m : Meaning S) (laws : Laws m) where
             let s = any_at m.gusts f q.1 in
             record {
               action = ltb-true a m.actions q.0;
-              gust = (s.0, s.1, sym (named_apart _ t.state (same_numbers_eq _ _ s.2)));
+              gust = (s.0, s.1, sym (named_apart _ t.state ((same_numbers_Decides _ _).0 s.2)));
               low = leb-true _ _ c.0;
               high = leb-true _ _ c.1;
             },
         λ h.
             let w = h.gust.0 in
-            let e : f w ≡ true = subst (λ (u : S). same_numbers (m.numbers u) (m.numbers t.state) ≡ true) h.gust.2 (same_numbers_refl (m.numbers t.state)) in
+            let e : f w ≡ true = subst (λ (u : S). same_numbers (m.numbers u) (m.numbers t.state) ≡ true) h.gust.2 ((same_numbers_Decides (m.numbers t.state) (m.numbers t.state)).1 refl) in
             and_from _ _ (and_from _ _ (lt-ltb a m.actions h.action) (any_some m.gusts w f h.gust.1 e)) (and_from _ _ (le-leb _ _ h.low) (le-leb _ _ h.high)),
       )

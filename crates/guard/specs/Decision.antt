@@ -1,5 +1,6 @@
 -- The decision rule over any guard, and the relations that it decides.
-use Rattle.std.specs.Prelude.{◌≡◌, ℕ, ◌<◌, Bool, true, false, ◌&&◌, T, ℤ, MatchBool, Option, MatchOption, int_le, nat_le, nat_lt}
+use Rattle.std.specs.Prelude.{◌≡◌, ℕ, ◌<◌, Bool, true, false, ◌&&◌, T, MatchBool, Option, MatchOption, nat_le, nat_lt}
+use Rattle.std.specs.Ordering.{int_eq}
 use Rattle.guard.specs.declared.reading.Reading.{Reading}
 use Rattle.guard.specs.Bounded.{each, any}
 use Rattle.guard.specs.Meaning.{Meaning, Follows, Numbers, lowest_charge}
@@ -15,11 +16,8 @@ admissible m r a = nat_lt a m.actions && each m.gusts (λ w. m.recoverable (lowe
 abbrev pub calm : {S : Type 0} → Meaning S → Reading S → Bool
 calm m r = each m.actions (λ a. admissible m r a)
 
-unfoldable pub same_number : ℤ → ℤ → Bool
-same_number a b = int_le a b && int_le b a
-
 abbrev pub same_numbers : Numbers → Numbers → Bool
-same_numbers a b = (same_number a.0 b.0 && same_number a.1 b.1) && same_number a.2 b.2
+same_numbers a b = (int_eq a.0 b.0 && int_eq a.1 b.1) && int_eq a.2 b.2
 
 -- some gust leads from the state s to the state t under the action a; states are told apart by their numbers
 abbrev pub state_follows : {S : Type 0} → Meaning S → S → ℕ → S → Bool

@@ -1,5 +1,6 @@
 pub mod Regions
 pub mod Refusals
+pub mod Reasons
 pub mod Meaning
 pub mod Driven
 pub mod Bounded

@@ -3,7 +3,7 @@ ghost use Rattle.guard.specs.Regions.{Inside, Within, Touching};
 ghost use Rattle.guard.specs.Regions.{between as lies, larger, holds as held, encloses as enclosed, touches as touched};
 
 // A point of whole coordinates.
-#[derive(Clone, Copy)]
+#[derive(Clone, Copy, Debug, PartialEq, Eq)]
 pub struct Point {
     pub x: i32,
     pub y: i32,
@@ -11,7 +11,7 @@ pub struct Point {
 }
 
 // An axis-aligned box of whole coordinates, both ends included. One whose upper end is below its lower end has no points.
-#[derive(Clone, Copy)]
+#[derive(Clone, Copy, Debug, PartialEq, Eq)]
 pub struct Region {
     pub low: Point,
     pub high: Point,
@@ -21,12 +21,6 @@ fn between(low: i32, c: i32, high: i32) -> bool
     ensures { result ≡ lies low c high }
 {
     low <= c && c <= high
-}
-
-fn on_each_axis(x: bool, y: bool, z: bool) -> bool
-    ensures { result ≡ ((x && y) && z) }
-{
-    x && y && z
 }
 
 impl Point {
@@ -47,11 +41,9 @@ impl Region {
     fn spans(&self, p: Point) -> bool
         ensures { result ≡ held self.now p }
     {
-        on_each_axis(
-            between(self.low.x, p.x, self.high.x),
-            between(self.low.y, p.y, self.high.y),
-            between(self.low.z, p.z, self.high.z),
-        )
+        between(self.low.x, p.x, self.high.x)
+            && between(self.low.y, p.y, self.high.y)
+            && between(self.low.z, p.z, self.high.z)
     }
 
     // Whether the point lies in the region.

@@ -8,6 +8,7 @@ ghost use Rattle.guard.specs.declared.refusal.StateRefusal.TheVariants.{NoSuchSt
 pub mod fallback;
 pub mod geometry;
 pub mod reading;
+pub mod reason;
 pub mod refusal;
 pub mod rule;
 

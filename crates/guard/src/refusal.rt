@@ -10,7 +10,7 @@ pub trait Refusal {
 }
 
 // Why no state is made from three numbers.
-#[derive(Clone, Copy)]
+#[derive(Clone, Copy, Debug, PartialEq, Eq)]
 pub enum StateRefusal {
     NoSuchState = 5,
 }

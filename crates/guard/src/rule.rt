@@ -2,7 +2,7 @@ ghost use Rattle.std.specs.Prelude.{◌≡◌, ◌<◌, true, false, ◌&&◌, D
 ghost use Rattle.guard.specs.Driven.{lowest as drawn};
 ghost use Rattle.guard.specs.Meaning.{Follows, Numbers};
 ghost use Rattle.guard.specs.Decision.{TellsEach, TellsSome, FirstDanger, Admits, Endangers, Calm};
-ghost use Rattle.guard.specs.Decision.{admissible as admitted, calm as calmed, same_number, same_numbers, state_follows, charge_follows, follows as followed};
+ghost use Rattle.guard.specs.Decision.{admissible as admitted, calm as calmed, same_numbers, state_follows, charge_follows, follows as followed};
 
 use crate::Guard;
 use crate::fallback::lowest;
@@ -23,10 +23,7 @@ pub fn endangering_gust<G: Guard>(g: &G, r: Reading<G::State>, a: u8) -> Option<
 fn no_gust_endangers<G: Guard>(g: &G, r: Reading<G::State>, a: u8) -> bool
     ensures { TellsEach result (G.Guard.meaning g.now).gusts (λ w. (G.Guard.meaning g.now).recoverable (drawn (G.Guard.meaning g.now) r a w)) }
 {
-    match endangering_gust(g, r, a) {
-        None => true,
-        Some(_) => false,
-    }
+    endangering_gust(g, r, a).is_none()
 }
 
 // Whether the action keeps the machine recoverable, whatever the gust and the draw.
@@ -57,22 +54,11 @@ pub fn calm<G: Guard>(g: &G, r: Reading<G::State>) -> bool
     each_action_admissible(g, r)
 }
 
-fn same(a: i32, b: i32) -> bool
-    ensures { result ≡ same_number a b }
+// Whether the gust leads to the state of these numbers.
+fn leads<G: Guard>(g: &G, s: G::State, a: u8, w: u8, n: (i32, i32, i32)) -> bool
+    ensures { result ≡ same_numbers ((G.Guard.meaning g.now).numbers ((G.Guard.meaning g.now).after s a w)) n }
 {
-    a <= b && b <= a
-}
-
-fn all(x: bool, y: bool, z: bool) -> bool
-    ensures { result ≡ ((x && y) && z) }
-{
-    x && y && z
-}
-
-fn same_triple(a: (i32, i32, i32), b: (i32, i32, i32)) -> bool
-    ensures { result ≡ same_numbers a b }
-{
-    all(same(a.0, b.0), same(a.1, b.1), same(a.2, b.2))
+    g.numbers(g.after(s, a, w)) == n
 }
 
 // Whether some gust leads to the state of these numbers.
@@ -80,7 +66,7 @@ fn some_gust_leads<G: Guard>(g: &G, s: G::State, a: u8, n: (i32, i32, i32)) -> b
     ensures { TellsSome result (G.Guard.meaning g.now).gusts (λ w. same_numbers ((G.Guard.meaning g.now).numbers ((G.Guard.meaning g.now).after s a w)) n) }
 {
     for w in 0..g.gust_count() {
-        if same_triple(g.numbers(g.after(s, a, w)), n) {
+        if leads(g, s, a, w, n) {
             return true;
         }
     }
