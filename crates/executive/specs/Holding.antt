@@ -4,17 +4,18 @@ use Rattle.history.specs.Outcome.{Held}
 use Rattle.history.specs.declared.calls.Answer.{Answer}
 use Rattle.history.specs.declared.calls.Answer.TheVariants.{Accepted, Granted, Spent, Ended, Refused}
 use Rattle.guard.specs.declared.Guard.{Ghosts}
+use Rattle.executive.specs.Controls.{has_planner}
 use Rattle.executive.specs.declared.held.Executive.{Executive}
 
 abbrev pub held : {G S : Type 0} {gs : Ghosts G S} → Executive G S gs → Held S
 held e = record {
   phase = e.phase;
-  tick = e.tick;
-  planner = e.planner;
-  given = e.given;
-  spent = e.spent;
-  gains = e.gains;
-  losses = e.losses;
+  tick = e.totals.tick;
+  planner = has_planner e.control;
+  given = e.totals.given;
+  spent = e.totals.spent;
+  gains = e.totals.gains;
+  losses = e.totals.losses;
 }
 
 -- a refusal changes nothing

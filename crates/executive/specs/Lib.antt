@@ -1,3 +1,4 @@
+pub mod Controls
 pub mod Counts
 pub mod Grants
 pub mod Holding

@@ -1,15 +1,8 @@
 -- What a client sees of an executive.
-use Rattle.std.specs.Prelude.{Bool, true, false, Some, None, Option}
+use Rattle.std.specs.Prelude.{Some, None, Option}
 use Rattle.guard.specs.declared.reading.Reading.{Reading}
 use Rattle.history.specs.declared.phase.Phase.{Phase}
 use Rattle.history.specs.declared.phase.Phase.TheVariants.{Parked, Ready, Granted, Moving, Closed}
-use Rattle.executive.specs.declared.view.Control.{Control}
-use Rattle.executive.specs.declared.view.Control.TheVariants.{Planner, Keeper}
-
--- who has control, by whether the planner has it
-abbrev pub control_of : Bool → Control
-control_of true = Planner
-control_of false = Keeper
 
 -- the last accepted reading, while the mission lasts
 abbrev pub reading_of : {S : Type 0} → Phase S → Option (Reading S)

@@ -1,4 +1,5 @@
 ghost use Rattle.std.specs.Prelude.{◌≡◌};
+ghost use Rattle.history.specs.declared.calls.Answer.TheVariants.{Accepted};
 ghost use Rattle.executive.specs.Grants.{ticket_of};
 ghost use Rattle.executive.specs.Making.{Made};
 ghost use Rattle.executive.specs.Took.{Took, Own, Back, accepting, deciding, spending, ending};
@@ -25,15 +26,23 @@ impl<G: Guard> Executive<G> {
         self.step(call)
     }
 
-    // Begins the mission at a reading.
-    pub fn begin(&mut self, r: Reading<G::State>) -> Result<(), CallRefusal>
-        ensures { Took (G.Guard.meaning self.old.guard) (Call.Begin r) (accepting result) self.old self.new }
+    // A call that is accepted without more: a begin or an observe.
+    fn accept(&mut self, call: Call<G::State>) -> Result<(), CallRefusal>
+        requires { Own call Accepted }
+        ensures { Took (G.Guard.meaning self.old.guard) call (accepting result) self.old self.new }
     {
-        match self.take(Call::Begin(r)) {
+        match self.take(call) {
             Answer::Accepted => Ok(()),
             Answer::Refused(x) => Err(x),
             _ => unreachable(),
         }
+    }
+
+    // Begins the mission at a reading.
+    pub fn begin(&mut self, r: Reading<G::State>) -> Result<(), CallRefusal>
+        ensures { Took (G.Guard.meaning self.old.guard) (Call.Begin r) (accepting result) self.old self.new }
+    {
+        self.accept(Call::Begin(r))
     }
 
     // Grants the proposed action, or the fallback.
@@ -66,11 +75,7 @@ impl<G: Guard> Executive<G> {
     pub fn observe(&mut self, r: Reading<G::State>) -> Result<(), CallRefusal>
         ensures { Took (G.Guard.meaning self.old.guard) (Call.Observe r) (accepting result) self.old self.new }
     {
-        match self.take(Call::Observe(r)) {
-            Answer::Accepted => Ok(()),
-            Answer::Refused(x) => Err(x),
-            _ => unreachable(),
-        }
+        self.accept(Call::Observe(r))
     }
 
     // Ends the mission, and answers its tick and counts.

@@ -1,7 +1,9 @@
 ghost use Rattle.std.specs.Prelude.{◌+◌, ◌≤◌};
 ghost use Rattle.executive.specs.Counts.{most, unspent};
 
+use crate::control::Control;
 use guard::Guard;
+use history::calls::Totals;
 use history::phase::Phase;
 
 // An executive: it grants a proposal only where the machine stays recoverable.
@@ -10,11 +12,8 @@ pub struct Executive<G: Guard> {
     pub(crate) guard: G,
     pub(crate) mission: u32,
     pub(crate) phase: Phase<G::State>,
-    pub(crate) tick: u32,
-    pub(crate) planner: bool,
-    pub(crate) given: u32,
-    pub(crate) spent: u32,
-    pub(crate) gains: u32,
-    pub(crate) losses: u32,
-    ghost few: { (most phase tick ≤ 1000000) × (given ≤ most phase tick) × (spent + unspent phase ≤ given) × (gains ≤ given) × (losses ≤ given) },
+    pub(crate) control: Control,
+    // the tick and the counts so far
+    pub(crate) totals: Totals,
+    ghost few: { (most phase totals.tick ≤ 1000000) × (totals.given ≤ most phase totals.tick) × (totals.spent + unspent phase ≤ totals.given) × (totals.gains ≤ totals.given) × (totals.losses ≤ totals.given) },
 }

@@ -2,6 +2,7 @@
 
 pub mod act;
 pub mod calls;
+pub mod control;
 pub mod grant;
 pub mod held;
 pub mod replay;

@@ -1,11 +1,15 @@
 ghost use Rattle.std.specs.Prelude.{◌≡◌, ◌<◌};
-ghost use Rattle.history.specs.Due.{choice as chosen, same_ticket};
+ghost use Rattle.guard.specs.Reasons.{number_of};
+ghost use Rattle.history.specs.Due.{choice as chosen};
 ghost use Rattle.history.specs.Outcome.{outcome, unused, ticket, after_giving};
+ghost use Rattle.executive.specs.Controls.{has_planner};
 ghost use Rattle.executive.specs.Holding.{held, Unaltered};
 
+use crate::control::Control;
 use crate::held::Executive;
 use guard::Guard;
 use guard::reading::Reading;
+use guard::reason::Reason;
 use guard::rule::{admissible, calm, charge_can_follow, state_can_follow};
 use history::calls::{Answer, Call, CallRefusal, Ticket, Totals};
 use history::phase::Phase;
@@ -17,49 +21,38 @@ const MOST_TICKS: u32 = 1_000_000;
 #[derive(Clone, Copy)]
 struct Choice {
     action: u8,
-    reason: u8,
+    reason: Reason,
 }
 
-fn choose<G: Guard>(g: &G, planner: bool, r: Reading<G::State>, b: u8) -> Choice
-    ensures action { result.action ≡ (chosen (G.Guard.meaning g.now) planner r b).0 }
-    ensures reason { result.reason ≡ (chosen (G.Guard.meaning g.now) planner r b).1 }
+// The proposal is granted where the one in control allows it, and else the fallback.
+fn choose<G: Guard>(g: &G, control: Control, r: Reading<G::State>, b: u8) -> Choice
+    ensures action { result.action ≡ (chosen (G.Guard.meaning g.now) (has_planner control) r b).0 }
+    ensures reason { number_of result.reason ≡ (chosen (G.Guard.meaning g.now) (has_planner control) r b).1 }
 {
     let known = b < g.action_count();
-    let fallback = g.fallback(r.state);
-    if planner {
-        if !known {
-            return Choice {
-                action: fallback,
-                reason: 1,
-            };
-        }
-        if !admissible(g, r, b) {
-            return Choice {
-                action: fallback,
-                reason: 2,
-            };
-        }
-        return Choice {
+    let action = g.fallback(r.state);
+    match control {
+        Control::Planner if !known => Choice {
+            action,
+            reason: Reason::NoAction,
+        },
+        Control::Planner if !admissible(g, r, b) => Choice {
+            action,
+            reason: Reason::NotAdmissible,
+        },
+        Control::Planner => Choice {
             action: b,
-            reason: 0,
-        };
-    }
-    if known && calm(g, r) {
-        return Choice {
+            reason: Reason::Stays,
+        },
+        Control::Keeper if known && calm(g, r) => Choice {
             action: b,
-            reason: 3,
-        };
+            reason: Reason::Calm,
+        },
+        Control::Keeper => Choice {
+            action,
+            reason: Reason::Stays,
+        },
     }
-    Choice {
-        action: fallback,
-        reason: 0,
-    }
-}
-
-fn same_ticket(t: Ticket, u: Ticket) -> bool
-    ensures { result ≡ same_ticket t u }
-{
-    t.mission == u.mission && t.tick == u.tick && t.action == u.action && t.reason == u.reason
 }
 
 impl<G: Guard> Executive<G> {
@@ -73,38 +66,44 @@ impl<G: Guard> Executive<G> {
             guard,
             mission,
             phase: Phase::Parked,
-            tick: 0,
-            planner: false,
-            given: 0,
-            spent: 0,
-            gains: 0,
-            losses: 0,
+            control: Control::Keeper,
+            totals: Totals {
+                tick: 0,
+                given: 0,
+                spent: 0,
+                gains: 0,
+                losses: 0,
+            },
         }
     }
 
     fn give(&mut self, r: Reading<G::State>, b: u8) -> Ticket
-        requires { (self.old.phase ≡ Phase.Ready r) × (self.old.tick < 1000000) }
+        requires { (self.old.phase ≡ Phase.Ready r) × (self.old.totals.tick < 1000000) }
         ensures value { result ≡ ticket (G.Guard.meaning self.old.guard) self.old.mission (held self.old) r b }
         ensures held { held self.new ≡ after_giving (held self.old) r result }
         ensures guard { self.new.guard ≡ self.old.guard }
         ensures mission { self.new.mission ≡ self.old.mission }
     {
-        let choice = choose(&self.guard, self.planner, r, b);
-        let tick = self.tick;
+        let choice = choose(&self.guard, self.control, r, b);
+        let tick = self.totals.tick;
         let grant = Ticket {
             mission: self.mission,
             tick,
             action: choice.action,
-            reason: choice.reason,
+            reason: choice.reason.number(),
         };
         self.phase = Phase::Granted(r, grant);
-        self.given += 1;
-        if choice.reason == 3 {
-            self.planner = true;
-            self.gains += 1;
-        } else if choice.reason == 1 || choice.reason == 2 {
-            self.planner = false;
-            self.losses += 1;
+        self.totals.given += 1;
+        match choice.reason {
+            Reason::Stays => {}
+            Reason::NoAction | Reason::NotAdmissible => {
+                self.control = Control::Keeper;
+                self.totals.losses += 1;
+            }
+            Reason::Calm => {
+                self.control = Control::Planner;
+                self.totals.gains += 1;
+            }
         }
         grant
     }
@@ -126,17 +125,17 @@ impl<G: Guard> Executive<G> {
                 Answer::Accepted
             }
             (Phase::Ready(r), Call::Decide(b)) => {
-                if self.tick >= MOST_TICKS {
+                if self.totals.tick >= MOST_TICKS {
                     return Answer::Refused(CallRefusal::MissionOver);
                 }
                 Answer::Granted(self.give(r, b))
             }
             (Phase::Granted(r, given), Call::Spend(t)) => {
-                if !same_ticket(given, t) {
+                if given != t {
                     return Answer::Refused(CallRefusal::OtherGrant);
                 }
                 self.phase = Phase::Moving(r, given.action);
-                self.spent += 1;
+                self.totals.spent += 1;
                 Answer::Spent(given.action)
             }
             (Phase::Moving(r, a), Call::Observe(t)) => {
@@ -147,18 +146,12 @@ impl<G: Guard> Executive<G> {
                     return Answer::Refused(CallRefusal::ChargeCannotFollow);
                 }
                 self.phase = Phase::Ready(t);
-                self.tick += 1;
+                self.totals.tick += 1;
                 Answer::Accepted
             }
             (Phase::Ready(_) | Phase::Moving(_, _), Call::Close) => {
                 self.phase = Phase::Closed;
-                Answer::Ended(Totals {
-                    tick: self.tick,
-                    given: self.given,
-                    spent: self.spent,
-                    gains: self.gains,
-                    losses: self.losses,
-                })
+                Answer::Ended(self.totals)
             }
             _ => Answer::Refused(CallRefusal::WrongPhase),
         }

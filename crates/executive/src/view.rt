@@ -1,17 +1,13 @@
 ghost use Rattle.std.specs.Prelude.{◌≡◌};
-ghost use Rattle.executive.specs.View.{control_of, reading_of};
+ghost use Rattle.executive.specs.Controls.{control_of};
+ghost use Rattle.executive.specs.Holding.{held};
+ghost use Rattle.executive.specs.View.{reading_of};
 
+use crate::control::Control;
 use crate::held::Executive;
 use guard::Guard;
 use guard::reading::Reading;
 use history::phase::Phase;
-
-// Who has control: the keeper from the making on, the planner from a gain to the next loss.
-#[derive(Clone, Copy)]
-pub enum Control {
-    Planner,
-    Keeper,
-}
 
 impl<G: Guard> Executive<G> {
     pub fn guard(&self) -> &G
@@ -21,30 +17,26 @@ impl<G: Guard> Executive<G> {
     }
 
     pub fn phase(&self) -> Phase<G::State>
-        ensures { result ≡ self.now.phase }
+        ensures { result ≡ (held self.now).phase }
     {
         self.phase
     }
 
     pub fn tick(&self) -> u32
-        ensures { result ≡ self.now.tick }
+        ensures { result ≡ (held self.now).tick }
     {
-        self.tick
+        self.totals.tick
     }
 
     pub fn control(&self) -> Control
-        ensures { result ≡ control_of self.now.planner }
+        ensures { result ≡ control_of (held self.now).planner }
     {
-        if self.planner {
-            Control::Planner
-        } else {
-            Control::Keeper
-        }
+        self.control
     }
 
     // The last accepted reading; none before the mission begins and after it is closed.
     pub fn reading(&self) -> Option<Reading<G::State>>
-        ensures { result ≡ reading_of self.now.phase }
+        ensures { result ≡ reading_of (held self.now).phase }
     {
         match self.phase {
             Phase::Ready(r) | Phase::Granted(r, _) | Phase::Moving(r, _) => Some(r),

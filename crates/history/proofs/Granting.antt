@@ -1,9 +1,9 @@
 -- A grant that was just given is taken by the next spend.
 use Rattle.std.proofs.Common.{◌≡◌, ℕ, Bool, true, false, cond, ltb, sym, refl, ap, subst, arith}
-use Rattle.std.proofs.lemmas.Bool.{cond-true, and_from, eq-eqb}
+use Rattle.std.proofs.lemmas.Bool.{cond-true}
 use Rattle.guard.specs.declared.reading.Reading.{Reading}
 use Rattle.guard.specs.Meaning.{Meaning}
-use Rattle.history.specs.Due.{same_ticket}
+use Rattle.history.proofs.Tickets.{same_ticket_Decides}
 use Rattle.history.specs.Outcome.{Held, Outcome, refusing, ticket, after_giving, spending, at, outcome}
 use Rattle.history.specs.declared.calls.Ticket.{Ticket}
 use Rattle.history.specs.declared.calls.Call.TheVariants.{Decide, Spend}
@@ -13,9 +13,6 @@ use Rattle.history.specs.declared.calls.CallRefusal.{CallRefusal}
 use Rattle.history.specs.declared.calls.CallRefusal.TheVariants.{MissionOver}
 use Rattle.history.specs.declared.phase.Phase.{Phase}
 use Rattle.history.specs.declared.phase.Phase.TheVariants.{Parked, Ready, Granted, Moving, Closed}
-
-same_ticket_refl : (t : Ticket) → same_ticket t t ≡ true
-same_ticket_refl t = and_from _ _ (and_from _ _ (eq-eqb t.mission _ refl) (eq-eqb t.tick _ refl)) (and_from _ _ (eq-eqb t.action _ refl) (eq-eqb t.reason _ refl))
 
 not_given : (t : Ticket) (x : CallRefusal) → Gave t ≡ Answer.Refused x → ⊥
 not_given t x e = let z : ◌≡◌ {A = ℕ} 0 1 = cc in omega arith
@@ -29,7 +26,7 @@ module _ {S : Type 0} (m w : Meaning S) (mission number : ℕ) (e : Held S) (b :
   given_at_ready r true g =
       let n : t ≡ ticket m mission e r b = cc in
       let f = after_giving e r (ticket m mission e r b) in
-      subst (λ (g : Ticket). (spending w number f r g t).answer ≡ Spent t.action) n (ap (λ (o : Outcome S). o.answer) (cond-true _ _ _ (same_ticket_refl t)))
+      subst (λ (g : Ticket). (spending w number f r g t).answer ≡ Spent t.action) n (ap (λ (o : Outcome S). o.answer) (cond-true _ _ _ ((same_ticket_Decides t t).1 refl)))
   given_at_ready r false g = absurd (not_given t _ g)
 
   given_at : (p : Phase S) → Gave t ≡ (at m mission e p (Decide b)).answer → spent_at (at m mission e p (Decide b)).held

@@ -1,3 +1,4 @@
+pub mod Tickets
 pub mod Told
 pub mod Found
 pub mod Going

@@ -1,10 +1,11 @@
 -- What a due answer tells of the history before it, by kinds of calls.
 use Rattle.std.proofs.Common.{◌≡◌, ℕ, ◌<◌, ◌≤◌, Bool, true, false, cond, ◌&&◌, ltb, ◌⊎◌, Some, None, Option, refl, ap, ◌∙◌, inl, inr}
-use Rattle.std.proofs.lemmas.Bool.{ltb-true, ltb-false, eqb-true, and_parts, both_ways}
+use Rattle.std.proofs.lemmas.Bool.{ltb-true, ltb-false, both_ways}
 use Rattle.guard.specs.declared.reading.Reading.{Reading}
 use Rattle.guard.specs.Meaning.{Meaning}
 use Rattle.guard.specs.Decision.{admissible, calm, state_follows, charge_follows}
 use Rattle.history.specs.History.{History, Stage, parked, ready, granted, moving, closed, stage, last, tick, planner, grant, given, spent, won, lost}
+use Rattle.history.proofs.Tickets.{same_ticket_Decides}
 use Rattle.history.specs.Due.{has_place, of_reading, of_grant, choice, same_ticket, due}
 use Rattle.history.specs.declared.calls.Ticket.{Ticket}
 use Rattle.history.specs.declared.calls.Call.{Call}
@@ -37,18 +38,6 @@ pub data Told {S : Type 0} (m : Meaning S) (mission : ℕ) (h : History S) : Cal
   done : {p : Ticket} {a : ℕ} → stage h ≡ granted → grant h ≡ Some p → a ≡ p.action → Told m mission h (Spend p) (Spent a)
   observed : {t : Reading S} (r : Reading S) (g : Ticket) → stage h ≡ moving → last h ≡ Some r → grant h ≡ Some g → state_follows m r.state g.action t.state ≡ true → charge_follows m r g.action t.charge ≡ true → Told m mission h (Observe t) Accepted
   ended : (stage h ≡ ready) ⊎ (stage h ≡ moving) → Told m mission h Close (Ended (record { tick = tick h; given = given h; spent = spent h; gains = won h; losses = lost h }))
-
-same_ticket_eq : (t u : Ticket) → same_ticket t u ≡ true → t ≡ u
-same_ticket_eq t u e =
-    let p = and_parts _ _ e in
-    let q = and_parts _ _ p.0 in
-    let r = and_parts _ _ p.1 in
-    λ i. record {
-      mission = eqb-true t.mission u.mission q.0 i;
-      tick = eqb-true t.tick u.tick q.1 i;
-      action = eqb-true t.action u.action r.0 i;
-      reason = eqb-true t.reason u.reason r.1 i;
-    }
 
 module _ {S : Type 0} (m : Meaning S) where
   chosen_by_planner : (r : Reading S) (b : ℕ) (k f : Bool) → ltb b m.actions ≡ k → admissible m r b ≡ f → let y : ℕ × ℕ = cond k (cond f (b, 0) (m.fallback r.state, 2)) (m.fallback r.state, 1) in Chosen m r b true y.0 y.1
@@ -88,7 +77,7 @@ module _ {S : Type 0} (m : Meaning S) (mission : ℕ) (h : History S) where
   told_decide b closed few l e f d = other WrongPhase refl
 
   told_spent : (p g : Ticket) (ok : Bool) → stage h ≡ granted → grant h ≡ Some g → same_ticket g p ≡ ok → Told m mission h (Spend p) (cond ok (Spent g.action) (Refused OtherGrant))
-  told_spent p g true e d f = let n : g ≡ p = same_ticket_eq g p f in done e (d ∙ ap Some n) (ap (λ (t : Ticket). t.action) n)
+  told_spent p g true e d f = let n : g ≡ p = (same_ticket_Decides g p).0 f in done e (d ∙ ap Some n) (ap (λ (t : Ticket). t.action) n)
   told_spent p g false e d f = other OtherGrant refl
 
   told_spend : (p : Ticket) (s : Stage) (g : Option Ticket) → stage h ≡ s → grant h ≡ g → Told m mission h (Spend p) (cond (has_place {S = S} s (Spend p)) (of_grant g λ g. cond (same_ticket g p) (Spent g.action) (Refused OtherGrant)) (Refused WrongPhase))

@@ -25,7 +25,7 @@ choice m true r b = cond (nat_lt b m.actions) (cond (admissible m r b) (b, 0) (m
 choice m false r b = cond (nat_lt b m.actions && calm m r) (b, 3) (m.fallback r.state, 0)
 
 abbrev pub same_ticket : Ticket → Ticket → Bool
-same_ticket t u = (t.mission == u.mission && t.tick == u.tick) && (t.action == u.action && t.reason == u.reason)
+same_ticket t u = ((t.mission == u.mission && t.tick == u.tick) && t.action == u.action) && t.reason == u.reason
 
 -- Where there is a last reading or a last grant, what is due of it. In a stage that needs one, there is one.
 abbrev pub of_reading : {S : Type 0} → Option (Reading S) → (Reading S → Answer) → Answer

@@ -5,7 +5,7 @@ use guard::reading::Reading;
 use guard::refusal::Refusal;
 
 // The four numbers of a grant: the mission's, the tick at the decision, the action that is granted, and why.
-#[derive(Clone, Copy)]
+#[derive(Clone, Copy, Debug, PartialEq, Eq)]
 pub struct Ticket {
     pub mission: u32,
     pub tick: u32,
@@ -14,7 +14,7 @@ pub struct Ticket {
 }
 
 // What can be asked of an executive.
-#[derive(Clone, Copy)]
+#[derive(Clone, Copy, Debug, PartialEq, Eq)]
 pub enum Call<S> {
     Begin(Reading<S>),
     Decide(u8),
@@ -24,7 +24,7 @@ pub enum Call<S> {
 }
 
 // Why a call is refused.
-#[derive(Clone, Copy)]
+#[derive(Clone, Copy, Debug, PartialEq, Eq)]
 pub enum CallRefusal {
     // the call has no place in the phase
     WrongPhase = 6,
@@ -49,7 +49,7 @@ impl Refusal for CallRefusal {
 }
 
 // What an accepted close answers.
-#[derive(Clone, Copy)]
+#[derive(Clone, Copy, Debug, PartialEq, Eq)]
 pub struct Totals {
     pub tick: u32,
     pub given: u32,
@@ -59,7 +59,7 @@ pub struct Totals {
 }
 
 // A begin and an observe are accepted without more, a decide with a grant, a spend with the action, a close with the totals.
-#[derive(Clone, Copy)]
+#[derive(Clone, Copy, Debug, PartialEq, Eq)]
 pub enum Answer {
     Accepted,
     Granted(Ticket),
