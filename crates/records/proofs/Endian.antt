@@ -1,5 +1,5 @@
 -- A number is the one that its bytes write, and bytes are those of the number that they write.
-use Rattle.std.proofs.Common.{◌≡◌, ℕ, zero, suc, ◌+◌, ◌*◌, ◌/◌, ◌%◌, ◌^◌, ◌<◌, List, [], ◌∷◌, length, refl, ap, ◌∙◌, pow-suc, arith, w32}
+use Rattle.std.proofs.Common.{◌≡◌, ℕ, zero, suc, ◌+◌, ◌*◌, ◌/◌, ◌%◌, ◌^◌, ◌<◌, List, [], ◌∷◌, length, refl, ap, ◌∙◌, pow-suc, arith, w32, get_or}
 use Rattle.std.specs.List.{AllByRecursion}
 use Rattle.std.proofs.lemmas.Int.{of_z-to_z}
 use Rattle.records.specs.LittleEndian.{le, number, signed_le, signed_number}
@@ -44,3 +44,18 @@ le_four n =
 
 pub le_one : (n : ℕ) → n < 256 → n ∷ [] ≡ le 1 n
 le_one n h = let e : n ≡ n % 256 = omega arith in ap (λ (b : ℕ). b ∷ []) e
+
+-- the number that four bytes, or two, write
+pub number_four : (bs : List ℕ) → length bs ≡ 4 → get_or bs 0 0 + get_or bs 1 0 * 256 + get_or bs 2 0 * 65536 + get_or bs 3 0 * 16777216 ≡ number bs
+number_four [] h = absurd (omega arith)
+number_four (a ∷ []) h = absurd (omega arith)
+number_four (a ∷ b ∷ []) h = absurd (omega arith)
+number_four (a ∷ b ∷ c ∷ []) h = absurd (omega arith)
+number_four (a ∷ b ∷ c ∷ d ∷ []) h = omega arith
+number_four (a ∷ b ∷ c ∷ d ∷ e ∷ bs) h = absurd (omega arith)
+
+pub number_two : (bs : List ℕ) → length bs ≡ 2 → get_or bs 0 0 + get_or bs 1 0 * 256 ≡ number bs
+number_two [] h = absurd (omega arith)
+number_two (a ∷ []) h = absurd (omega arith)
+number_two (a ∷ b ∷ []) h = omega arith
+number_two (a ∷ b ∷ c ∷ bs) h = absurd (omega arith)

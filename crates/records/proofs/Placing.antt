@@ -1,8 +1,10 @@
 -- Bytes put into a buffer one after another.
-use Rattle.std.proofs.Common.{◌≡◌, ℕ, ◌+◌, ◌≤◌, List, [], ◌++◌, length, take, drop, sym, refl, ap, ◌∙◌, append_assoc, add-zero, arith, length-append, length-drop, take-append-drop, length-take, drop-drop}
+use Rattle.std.proofs.Common.{◌≡◌, ℕ, ◌+◌, ◌-◌, ◌≤◌, false, ltb, List, [], ◌++◌, length, take, drop, sym, refl, ap, ◌∙◌, append_assoc, add-zero, arith, length-append, length-drop, take-append-drop, length-take, drop-drop}
 use borrow.Rule.Slice.PartMut.{put_mid}
 use Rattle.std.proofs.lemmas.Slice.{take-put_mid, drop-put_mid}
-use Rattle.records.specs.Writing.{placed}
+use Rattle.records.specs.Bytes.{bytes}
+use Rattle.records.specs.Writing.{placed, with_record}
+use Rattle.records.specs.declared.record.Record.{Record}
 
 as_part : (log : List ℕ) (at : ℕ) (bs : List ℕ) → placed log at bs ≡ put_mid at (length bs) log bs
 as_part log at bs = ap (λ d. take at log ++ (bs ++ d)) (sym (drop-drop (length bs) at log))
@@ -28,3 +30,10 @@ placed_none log at = rw add-zero (sym (take-append-drop at log))
 
 pub length_placed : (log : List ℕ) (at : ℕ) (bs : List ℕ) → at + length bs ≤ length log → length (placed log at bs) ≡ length log
 length_placed log at bs h = simp (length-append, length-take, length-drop) (omega arith)
+
+-- the bytes of a record that fits, put into the buffer
+pub record_put : (log : List ℕ) (at width : ℕ) (bs : List ℕ) (r : Record) → bs ≡ bytes r → width ≡ length bs → length bs ≤ length log - at → put_mid at width log bs ≡ with_record log at r
+record_put log at width bs r e w h =
+    let fits : length (bytes r) ≤ length log - at = rw e at h in
+    let room : ltb (length log - at) (length (bytes r)) ≡ false = grind arith in
+    rw room (placed_part log at width bs (bytes r) e (w ∙ ap length e))

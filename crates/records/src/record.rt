@@ -1,8 +1,11 @@
 ghost use Rattle.std.specs.Prelude.{◌≡◌};
+ghost use Rattle.std.specs.Option.{ok_or};
 ghost use Rattle.records.specs.Bytes.{kind as kind_in};
 ghost use Rattle.records.specs.Fitting.{Fitting};
 ghost use Rattle.records.specs.Kinds.{kind_of, number_of, mark_of, length_of};
+ghost use Rattle.records.specs.declared.refusal.ReadRefusal.TheVariants.{UnknownKind};
 
+use crate::refusal::ReadRefusal;
 use guard::reading::Reading;
 
 // What the records of a tape begin with.
@@ -15,7 +18,7 @@ pub const LOG_MARK: [u8; 2] = [0x4D, 0x4C];
 pub type Noted = Reading<(i32, i32, i32)>;
 
 // The kinds of records: what a tape asks of an executive, and what a log says of a run.
-#[derive(Clone, Copy)]
+#[derive(Clone, Copy, Debug, PartialEq, Eq)]
 pub enum Kind {
     Begin = 1,
     Decide = 2,
@@ -26,51 +29,61 @@ pub enum Kind {
     Closing = 7,
 }
 
-impl Kind {
-    // The kind that a kind byte names.
-    pub fn of(byte: u8) -> Option<Kind>
-        ensures { result ≡ kind_of byte }
-    {
-        match byte {
-            1 => Some(Kind::Begin),
-            2 => Some(Kind::Decide),
-            3 => Some(Kind::Observe),
-            4 => Some(Kind::Close),
-            5 => Some(Kind::Switch),
-            6 => Some(Kind::Refusal),
-            7 => Some(Kind::Closing),
-            _ => None,
-        }
-    }
+impl TryFrom<u8> for Kind {
+    type Error = ReadRefusal;
 
+    // The kind that a kind byte names.
+    ghost try_from_gives = { λ byte r. r ≡ ok_or (kind_of byte) UnknownKind };
+
+    fn try_from(byte: u8) -> Result<Kind, ReadRefusal> {
+        Ok(match byte {
+            1 => Kind::Begin,
+            2 => Kind::Decide,
+            3 => Kind::Observe,
+            4 => Kind::Close,
+            5 => Kind::Switch,
+            6 => Kind::Refusal,
+            7 => Kind::Closing,
+            _ => return Err(ReadRefusal::UnknownKind),
+        })
+    }
+}
+
+impl From<Kind> for u8 {
     // The kind byte of such a record.
-    pub fn byte(self) -> u8
-        ensures { result ≡ number_of self }
+    ghost from_gives = { λ k r. r ≡ number_of k };
+
+    fn from(kind: Kind) -> u8 {
+        kind as u8
+    }
+}
+
+impl Kind {
+    // What its records begin with, and how many bytes their bodies have.
+    fn layout(self) -> ([u8; 2], usize)
+        ensures { result ≡ (mark_of self, length_of self) }
     {
-        self as u8
+        match self {
+            Kind::Begin | Kind::Observe => (TAPE_MARK, 14),
+            Kind::Decide => (TAPE_MARK, 1),
+            Kind::Close => (TAPE_MARK, 0),
+            Kind::Switch => (LOG_MARK, 19),
+            Kind::Refusal => (LOG_MARK, 5),
+            Kind::Closing => (LOG_MARK, 20),
+        }
     }
 
     pub fn mark(self) -> [u8; 2]
         ensures { result ≡ mark_of self }
     {
-        match self {
-            Kind::Begin | Kind::Decide | Kind::Observe | Kind::Close => TAPE_MARK,
-            Kind::Switch | Kind::Refusal | Kind::Closing => LOG_MARK,
-        }
+        self.layout().0
     }
 
     // How many bytes the body of such a record has.
     pub fn body_len(self) -> usize
         ensures { result ≡ length_of self }
     {
-        match self {
-            Kind::Begin | Kind::Observe => 14,
-            Kind::Decide => 1,
-            Kind::Close => 0,
-            Kind::Switch => 19,
-            Kind::Refusal => 5,
-            Kind::Closing => 20,
-        }
+        self.layout().1
     }
 }
 

@@ -4,7 +4,7 @@ ghost use Rattle.records.specs.Refusals.{numbered_read, numbered_write};
 use guard::refusal::Refusal;
 
 // Why no record is read.
-#[derive(Clone, Copy)]
+#[derive(Clone, Copy, Debug, PartialEq, Eq)]
 pub enum ReadRefusal {
     // one or two bytes are left, or fewer than the body has
     Cut = 12,
@@ -23,7 +23,7 @@ impl Refusal for ReadRefusal {
 }
 
 // Why a record is not written.
-#[derive(Clone, Copy)]
+#[derive(Clone, Copy, Debug, PartialEq, Eq)]
 pub enum WriteRefusal {
     // fewer bytes are left than the record has
     NoRoom = 16,

@@ -1,10 +1,27 @@
+use Rattle.std.proofs.Common.{◌≡◌, ℕ, ◌≤◌, length, Some, None, Ok, Err, Option, Result, sym, rules, arith}
+use Rattle.std.specs.Option.{ok_or}
+use Rattle.std.proofs.lemmas.List.{take_rest}
+use Rattle.std.proofs.lemmas.Slice.Eq.{bytes_eq-Decides}
 use Rattle.std.proofs.ByRecursion.{All-from_get_or}
-use Rattle.records.proofs.Taken.{decodes}
+use Rattle.records.specs.Kinds.{kind_of, mark_of, length_of}
+use Rattle.records.specs.declared.record.Kind.{Kind}
+use Rattle.records.specs.declared.refusal.ReadRefusal.{ReadRefusal}
+use Rattle.records.specs.declared.refusal.ReadRefusal.TheVariants.{UnknownKind}
+use Rattle.records.proofs.Taken.{Bytes, taken}
 use Rattle.records.proofs.reader.decode.Goals as goal
 
-pub returns : goal.returns
-returns c =
-    record {
-      value = c.decode_kind.ensures;
-      taken = decodes c.args.mark c.args.kind c.args.body.now (All-from_get_or _ c.args.body.now 0 (λ i h. (c.type_inv.body i).fits)) c.decode_kind.result c.decode_kind.ensures;
-    }
+no_error : (k : Kind) → ◌≡◌ {A = Result Kind ReadRefusal} (Ok k) (Err UnknownKind) → ⊥
+no_error k e = let z : ◌≡◌ {A = ℕ} 0 1 = cc in omega arith
+
+some_of : (o : Option Kind) (k : Kind) → Ok k ≡ ok_or o UnknownKind → o ≡ Some k
+some_of (Some j) k e = cc
+some_of None k e = absurd (no_error k e)
+
+pub returns-clause-taken : goal.returns-clause-taken
+returns-clause-taken c =
+    let k = c.in_ok-kind.kind in
+    let small : Bytes c.args.body.now = All-from_get_or _ c.args.body.now 0 (λ i h. (c.type_inv.body i).fits) in
+    let mark : c.args.mark ≡ mark_of k = (bytes_eq-Decides c.args.mark (mark_of k)).0 (search rules) in
+    let found : kind_of c.args.kind ≡ Some k = some_of _ _ c.in_ok-kind.ensures in
+    let long : length_of k ≤ length c.args.body.now = search rules in
+    taken c.args.mark c.args.kind c.args.body.now small _ _ k mark found long c.record.ensures.value (search (rules, take_rest))
