@@ -1,7 +1,5 @@
 pub mod Endian
-pub mod Headed
 pub mod Opened
-pub mod Places
 pub mod Placing
 pub mod Round
 pub mod Scanned

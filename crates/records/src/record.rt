@@ -88,7 +88,7 @@ impl Kind {
 }
 
 // A record of a tape or a log.
-#[derive(Clone, Copy)]
+#[derive(Clone, Copy, Debug, PartialEq, Eq)]
 pub enum Record {
     Begin {
         reading: Noted,
