@@ -16,8 +16,10 @@ use Rattle.records.specs.declared.refusal.ReadRefusal.TheVariants.{Cut, WrongMar
 use Rattle.records.proofs.Scanned.{contents_end, contents_fault, contents_further, rest_shorter}
 use Rattle.runs.specs.Asking.{asks}
 use Rattle.runs.specs.Courses.{next_place, broken, deeds, deeds_on}
-use Rattle.runs.specs.Deeds.{Deed, deed}
-use Rattle.runs.specs.Ran.{Dealt, First}
+use Rattle.runs.specs.Deeds.{Deed, deed, CarriedAt}
+use Rattle.runs.specs.Refusals.{end_number}
+use Rattle.runs.specs.declared.refusal.RunRefusal.TheVariants.{Read}
+use Rattle.runs.specs.Ran.{First}
 use Rattle.runs.specs.declared.due.Due.{Due}
 
 not_zero : (x : ReadRefusal) → numbered_read x ≡ 0 → ⊥
@@ -33,7 +35,7 @@ module _ {G S : Type 0} {gs : Ghosts G S} (m : Meaning S) (i : ℕ) (t : List �
   unfolding of_contents
   none_due e = ap of_contents (contents_end t e)
 
-  pub record_due : (r : Record) (rest : List ℕ) (y : Due) (e : Executive G S gs) → read t ≡ Ok (Some (r, rest)) → Dealt m i r y d e → First m i t y d e rest
+  pub record_due : (r : Record) (rest : List ℕ) (y : Due) (e : Executive G S gs) → read t ≡ Ok (Some (r, rest)) → CarriedAt m i (asks m r) y.entry (end_number y.ending) d e → First m i t y d e rest
   unfolding of_contents
   record_due r rest y e q k =
       let w = deed m d.mission i (held d) (asks m r) in
@@ -44,11 +46,11 @@ module _ {G S : Type 0} {gs : Ghosts G S} (m : Meaning S) (i : ℕ) (t : List �
         entry_is = k.entry_is;
         ending_is = k.ending_is;
         held_is = k.held_is;
-        later_are = λ z. cond-true (eqb w.ending 0) _ _ (eq-eqb w.ending 0 (sym k.ending_is ∙ z)) ∙ ap (λ (f : Held S). deeds_on m d.mission (next_place i) f rest) (sym k.held_is);
+        later_are = λ z. cond-true (eqb w.ending 0) _ _ (eq-eqb w.ending 0 (sym k.ending_is ∙ ap end_number z)) ∙ ap (λ (f : Held S). deeds_on m d.mission (next_place i) f rest) (sym k.held_is);
         shorter = λ z. rest_shorter t r rest q;
       }
 
-  pub fault_due : (x : ReadRefusal) (y : Due) (e : Executive G S gs) (rest : List ℕ) → read t ≡ Err x → y.entry ≡ Some (Refusal i (numbered_read x)) → y.ending ≡ numbered_read x → held e ≡ held d → First m i t y d e rest
+  pub fault_due : (x : ReadRefusal) (y : Due) (e : Executive G S gs) (rest : List ℕ) → read t ≡ Err x → y.entry ≡ Some (Refusal i (numbered_read x)) → y.ending ≡ Some (Read x) → held e ≡ held d → First m i t y d e rest
   unfolding of_contents
   fault_due x y e rest q entry ending held_is =
       record {
@@ -56,8 +58,8 @@ module _ {G S : Type 0} {gs : Ghosts G S} (m : Meaning S) (i : ℕ) (t : List �
         later = [];
         deeds_are = ap of_contents (contents_fault t x q);
         entry_is = entry;
-        ending_is = ending;
+        ending_is = ap end_number ending;
         held_is = held_is;
-        later_are = λ z. absurd (not_zero x (sym ending ∙ z));
-        shorter = λ z. absurd (not_zero x (sym ending ∙ z));
+        later_are = λ z. absurd (not_zero x (sym (ap end_number ending) ∙ ap end_number z));
+        shorter = λ z. absurd (not_zero x (sym (ap end_number ending) ∙ ap end_number z));
       }

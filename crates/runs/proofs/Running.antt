@@ -17,7 +17,12 @@ use Rattle.records.specs.declared.refusal.WriteRefusal.TheVariants.{NoRoom}
 use Rattle.records.proofs.Placing.{placed_then, placed_none, length_placed}
 use Rattle.records.proofs.Scanned.{Backed, tape_of, backed_both, joined_both}
 use Rattle.runs.specs.Courses.{next_place, deeds_on, Course, size, full, ended, then, within, course}
+use Rattle.records.specs.declared.refusal.ReadRefusal.TheVariants.{Cut, WrongMark, UnknownKind}
 use Rattle.runs.specs.Ran.{First, Kept, Came}
+use Rattle.runs.specs.Refusals.{numbered_run, end_number}
+use Rattle.runs.specs.declared.refusal.RunRefusal.{RunRefusal}
+use Rattle.runs.specs.declared.refusal.RunRefusal.TheVariants.{Read, Tape as OnTape, Write}
+use Rattle.runs.specs.declared.refusal.TapeRefusal.TheVariants.{LogRecord}
 use Rattle.runs.specs.declared.due.Due.{Due}
 use Rattle.runs.specs.declared.run.Ended.{Ended}
 
@@ -41,6 +46,13 @@ by_room false next end e = (refl, cc)
 by_no_room : (b : Bool) (x : WriteRefusal) (end : ℕ) → Err x ≡ cond {A = Result ℕ WriteRefusal} b (Err NoRoom) (Ok end) → b ≡ true
 by_no_room true x end e = refl
 by_no_room false x end e = let z : ◌≡◌ {A = ℕ} 0 1 = cc in absurd (omega arith)
+
+not_zero : (x : RunRefusal) → numbered_run x ≡ 0 → ⊥
+not_zero (Read Cut) e = omega arith
+not_zero (Read WrongMark) e = omega arith
+not_zero (Read UnknownKind) e = omega arith
+not_zero (OnTape LogRecord) e = omega arith
+not_zero (Write NoRoom) e = omega arith
 
 always_sixteen : (x : WriteRefusal) → numbered_write x ≡ 16
 always_sixteen NoRoom = refl
@@ -119,7 +131,7 @@ module _ {G S : Type 0} {gs : Ghosts G S} (m : Meaning S) (tape log : List ℕ) 
   same_length = let b = k.at_is in ap length k.log_is ∙ length_placed log 0 (joined k.done) (let r = k.room in omega arith)
 
   -- the run comes to its end with what was logged in all
-  came : (all : List Record) (y : Ended) (after : List ℕ) (f : Executive G S gs) → (course m d.mission (length log) (held d) tape).log ≡ all → Backed all → y.written ≡ length (joined all) → after ≡ placed log 0 (joined all) → y.number ≡ (course m d.mission (length log) (held d) tape).number → held f ≡ (course m d.mission (length log) (held d) tape).held → f.guard ≡ d.guard → f.mission ≡ d.mission → Came m tape log y after d f
+  came : (all : List Record) (y : Ended) (after : List ℕ) (f : Executive G S gs) → (course m d.mission (length log) (held d) tape).log ≡ all → Backed all → y.written ≡ length (joined all) → after ≡ placed log 0 (joined all) → end_number y.refusal ≡ (course m d.mission (length log) (held d) tape).number → held f ≡ (course m d.mission (length log) (held d) tape).held → f.guard ≡ d.guard → f.mission ≡ d.mission → Came m tape log y after d f
   came all y after f a b w l n h gu mi =
       let t : take y.written after ≡ joined all = ap (take y.written) l ∙ take_at (joined all) _ y.written (sym w) in
       record {
@@ -133,11 +145,11 @@ module _ {G S : Type 0} {gs : Ghosts G S} (m : Meaning S) (tape log : List ℕ) 
       }
 
   -- the tape's end
-  pub going_end : (y : Ended) (f : Executive G S gs) → deeds_on m e.mission i (held e) rest ≡ [] → held f ≡ held e → f.guard ≡ e.guard → f.mission ≡ e.mission → y.written ≡ at → y.number ≡ 0 → Came m tape log y nowlog d f
+  pub going_end : (y : Ended) (f : Executive G S gs) → deeds_on m e.mission i (held e) rest ≡ [] → held f ≡ held e → f.guard ≡ e.guard → f.mission ≡ e.mission → y.written ≡ at → y.refusal ≡ None → Came m tape log y nowlog d f
   going_end y f q h g mi w n =
       let none = ap (λ (x : ℕ). deeds_on m x i (held e) rest) (sym k.mission_is) ∙ q in
       let l = left_by (record { held = held e; events = []; log = []; number = 0 }) (ap (within (length log - at) (held e)) none) in
-      came k.done y nowlog f (l.course_is ∙ append-nil k.done) k.backed (w ∙ k.at_is) k.log_is (n ∙ sym l.number_is) (h ∙ sym l.held_is) (g ∙ k.guard_is) (mi ∙ k.mission_is)
+      came k.done y nowlog f (l.course_is ∙ append-nil k.done) k.backed (w ∙ k.at_is) k.log_is (ap end_number n ∙ sym l.number_is) (h ∙ sym l.held_is) (g ∙ k.guard_is) (mi ∙ k.mission_is)
 
   module _ (y : Due) (f : Executive G S gs) (later : List ℕ) (first : First m i rest y e f later) where
     head : deeds_on m d.mission i (held e) rest ≡ first.deed ∷ first.later
@@ -147,11 +159,11 @@ module _ {G S : Type 0} {gs : Ghosts G S} (m : Meaning S) (tape log : List ℕ) 
     tested b t = ap (λ (n : ℕ). ltb (n - at) (size first.deed.entry)) (sym same_length) ∙ ap (λ (r : Option Record). ltb (length nowlog - at) (size r)) (sym first.entry_is) ∙ t
 
     -- the entry does not fit
-    pub going_full : (x : WriteRefusal) (after : List ℕ) (z : Ended) → f.guard ≡ e.guard → f.mission ≡ e.mission → PassedOver nowlog at y.entry x after → z.written ≡ at → z.number ≡ numbered_write x → Came m tape log z after d f
+    pub going_full : (x : WriteRefusal) (after : List ℕ) (z : Ended) → f.guard ≡ e.guard → f.mission ≡ e.mission → PassedOver nowlog at y.entry x after → z.written ≡ at → z.refusal ≡ Some (Write x) → Came m tape log z after d f
     going_full x after z g n p w q =
         let c = ap (within (length log - at) (held e)) head ∙ cond-true _ _ _ (tested true p.short) in
         let l = left_by (full first.deed) c in
-        came k.done z after f (l.course_is ∙ append-nil k.done) k.backed (w ∙ k.at_is) (p.after_is ∙ k.log_is) (q ∙ p.number_is ∙ sym l.number_is) (first.held_is ∙ sym l.held_is) (g ∙ k.guard_is) (n ∙ k.mission_is)
+        came k.done z after f (l.course_is ∙ append-nil k.done) k.backed (w ∙ k.at_is) (p.after_is ∙ k.log_is) (ap end_number q ∙ p.number_is ∙ sym l.number_is) (first.held_is ∙ sym l.held_is) (g ∙ k.guard_is) (n ∙ k.mission_is)
 
     module _ (next : ℕ) (after : List ℕ) (s : Stored nowlog at y.entry next after) where
       entry_size : length (joined (option_to_list y.entry)) ≡ size y.entry
@@ -182,16 +194,17 @@ module _ {G S : Type 0} {gs : Ghosts G S} (m : Meaning S) (tape log : List ℕ) 
       not_short = ap (within (length log - at) (held e)) head ∙ cond-false _ _ _ (tested false s.fits)
 
       -- the record ends the run
-      pub going_ended : (z : Ended) → f.guard ≡ e.guard → f.mission ≡ e.mission → (y.ending ≡ 0 → ⊥) → z.written ≡ next → z.number ≡ y.ending → Came m tape log z after d f
-      going_ended z g n o w q =
-          let b : eqb first.deed.ending 0 ≡ false = ne_eqb first.deed.ending 0 (λ u. o (first.ending_is ∙ u)) in
+      pub going_ended : (x : RunRefusal) (z : Ended) → f.guard ≡ e.guard → f.mission ≡ e.mission → y.ending ≡ Some x → z.written ≡ next → z.refusal ≡ Some x → Came m tape log z after d f
+      going_ended x z g n o w q =
+          let number : first.deed.ending ≡ numbered_run x = sym first.ending_is ∙ ap end_number o in
+          let b : eqb first.deed.ending 0 ≡ false = ne_eqb first.deed.ending 0 (λ u. not_zero x (sym number ∙ u)) in
           let l = left_by (ended first.deed) (not_short ∙ cond-false _ _ _ b) in
-          came (k.done ++ option_to_list y.entry) z after f (l.course_is ∙ ap (λ (r : Option Record). k.done ++ option_to_list r) (sym first.entry_is)) more_backed (w ∙ more_length) more_placed (q ∙ first.ending_is ∙ sym l.number_is) (first.held_is ∙ sym l.held_is) (g ∙ k.guard_is) (n ∙ k.mission_is)
+          came (k.done ++ option_to_list y.entry) z after f (l.course_is ∙ ap (λ (r : Option Record). k.done ++ option_to_list r) (sym first.entry_is)) more_backed (w ∙ more_length) more_placed (ap end_number q ∙ sym number ∙ sym l.number_is) (first.held_is ∙ sym l.held_is) (g ∙ k.guard_is) (n ∙ k.mission_is)
 
       -- and otherwise it goes on
-      pub going_more : f.guard ≡ e.guard → f.mission ≡ e.mission → y.ending ≡ 0 → Going m tape log d (next_place i) next after f later
+      pub going_more : f.guard ≡ e.guard → f.mission ≡ e.mission → y.ending ≡ None → Going m tape log d (next_place i) next after f later
       going_more g n o =
-          let b : eqb first.deed.ending 0 ≡ true = eq-eqb first.deed.ending 0 (sym first.ending_is ∙ o) in
+          let b : eqb first.deed.ending 0 ≡ true = eq-eqb first.deed.ending 0 (sym first.ending_is ∙ ap end_number o) in
           let c = not_short ∙ cond-true _ _ _ b in
           let r : length log - at - size first.deed.entry ≡ length log - next = let v = ap size first.entry_is in let u = s.next_is in omega arith in
           let left = within (length log - at - size first.deed.entry) first.deed.held first.later in

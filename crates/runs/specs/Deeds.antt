@@ -1,5 +1,5 @@
 -- What a record of a tape comes to: the calls made for it, what they leave the executive with, and what is logged.
-use Rattle.std.specs.Prelude.{◌≡◌, ℕ, cond, [], ◌∷◌, Some, None, Option, ◌==◌}
+use Rattle.std.specs.Prelude.{◌≡◌, ℕ, cond, [], ◌∷◌, Some, None, Option, Result, ◌==◌}
 use Rattle.guard.specs.Meaning.{Meaning}
 use Rattle.guard.specs.Refusals as states
 use Rattle.guard.specs.declared.reading.Reading.{Reading}
@@ -19,7 +19,10 @@ use Rattle.executive.specs.declared.held.Executive.{Executive}
 use Rattle.records.specs.declared.record.Record.{Record}
 use Rattle.records.specs.declared.record.Record.TheVariants.{Switch, Refusal, Closing}
 use Rattle.runs.specs.Asking.{Request, calls, no_state, nothing, noted}
+use Rattle.runs.specs.Dues.{entry_of, end_of}
 use Rattle.runs.specs.Refusals as tapes
+use Rattle.runs.specs.Refusals.{end_number}
+use Rattle.runs.specs.declared.refusal.RecordRefusal.{RecordRefusal}
 
 pub record Deed (S : Type 0) : Type 0 where
   -- what the executive holds then
@@ -67,9 +70,14 @@ module _ {S : Type 0} (m : Meaning S) (mission : ℕ) where
   deed i e (no_state x) = record { held = e; events = []; entry = Some (Refusal i (states.numbered x)); ending = 0 }
   deed i e (nothing x) = record { held = e; events = []; entry = Some (Refusal i (tapes.numbered x)); ending = tapes.numbered x }
 
--- the request was carried out: from the executive d to e, and y is to be logged
-pub record Carried {G S : Type 0} {gs : Ghosts G S} (m : Meaning S) (i : ℕ) (q : Request S) (y : Option Record) (d e : Executive G S gs) : Type 0 where
+-- the request of the record with the number i was carried out: from the executive d to e, y is to be logged, and n ends the run or is 0
+pub record CarriedAt {G S : Type 0} {gs : Ghosts G S} (m : Meaning S) (i : ℕ) (q : Request S) (y : Option Record) (n : ℕ) (d e : Executive G S gs) : Type 0 where
   pub entry_is : y ≡ (deed m d.mission i (held d) q).entry
+  pub ending_is : n ≡ (deed m d.mission i (held d) q).ending
   pub held_is : held e ≡ (deed m d.mission i (held d) q).held
   pub guard_is : e.guard ≡ d.guard
   pub mission_is : e.mission ≡ d.mission
+
+-- the request was carried out: from the executive d to e, and it came to y, whatever the record's number
+abbrev pub Carried : {G S : Type 0} {gs : Ghosts G S} → Meaning S → Request S → Result (Option Record) RecordRefusal → Executive G S gs → Executive G S gs → Type 0
+Carried m q y d e = (i : ℕ) → CarriedAt m i q (entry_of i y) (end_number (end_of y)) d e

@@ -20,11 +20,9 @@ pub(crate) fn noted<G: Guard>(g: &G, r: Reading<G::State>) -> Noted
 pub(crate) fn reading<G: Guard>(g: &G, n: Noted) -> Result<Reading<G::State>, StateRefusal>
     ensures { result ≡ reading_of (G.Guard.meaning g.now) n }
 {
-    match g.state(n.state) {
-        Ok(state) => Ok(Reading {
-            state,
-            charge: n.charge,
-        }),
-        Err(refusal) => Err(refusal),
-    }
+    let state = g.state(n.state)?;
+    Ok(Reading {
+        state,
+        charge: n.charge,
+    })
 }

@@ -1,22 +1,15 @@
-ghost use Rattle.std.specs.Prelude.{◌≡◌, Some as Present};
+ghost use Rattle.std.specs.Prelude.{◌≡◌};
 ghost use Rattle.history.specs.declared.calls.Call.TheVariants.{Begin, Decide, Observe, Close};
-ghost use Rattle.records.specs.declared.record.Record.TheVariants.{Refusal as Refuses};
 ghost use Rattle.runs.specs.Asking.{calls, reading_of, with_reading};
 ghost use Rattle.runs.specs.Deeds.{Carried, switch, closing as ends};
 
 use crate::asking::{noted, reading};
+use crate::refusal::RecordRefusal;
 use executive::held::Executive;
 use guard::Guard;
 use guard::reading::Reading;
-use guard::refusal::Refusal;
 use history::calls::{Ticket, Totals};
 use records::record::{Noted, Record};
-
-pub(crate) fn refused(place: u32, refusal: u8) -> Option<Record>
-    ensures { result ≡ Present (Refuses place refusal) }
-{
-    Some(Record::Refusal { place, refusal })
-}
 
 fn closing(t: Totals) -> Record
     ensures { result ≡ ends t }
@@ -43,46 +36,41 @@ fn switched<G: Guard>(g: &G, stored: Option<Reading<G::State>>, t: Ticket) -> Op
     }
 }
 
-pub(crate) fn begin<G: Guard>(e: &mut Executive<G>, place: u32, n: Noted) -> Option<Record>
-    ensures { Carried (G.Guard.meaning e.old.guard) place (with_reading Begin (reading_of (G.Guard.meaning e.old.guard) n)) result e.old e.new }
+// What the reading's state or the call is refused for comes to an entry only with the record's number.
+pub(crate) fn begin<G: Guard>(
+    e: &mut Executive<G>,
+    n: Noted,
+) -> Result<Option<Record>, RecordRefusal>
+    ensures { Carried (G.Guard.meaning e.old.guard) (with_reading Begin (reading_of (G.Guard.meaning e.old.guard) n)) result e.old e.new }
 {
-    match reading(e.guard(), n) {
-        Ok(r) => match e.begin(r) {
-            Ok(()) => None,
-            Err(x) => refused(place, x.number()),
-        },
-        Err(x) => refused(place, x.number()),
-    }
+    let r = reading(e.guard(), n)?;
+    e.begin(r)?;
+    Ok(None)
 }
 
-pub(crate) fn observe<G: Guard>(e: &mut Executive<G>, place: u32, n: Noted) -> Option<Record>
-    ensures { Carried (G.Guard.meaning e.old.guard) place (with_reading Observe (reading_of (G.Guard.meaning e.old.guard) n)) result e.old e.new }
+pub(crate) fn observe<G: Guard>(
+    e: &mut Executive<G>,
+    n: Noted,
+) -> Result<Option<Record>, RecordRefusal>
+    ensures { Carried (G.Guard.meaning e.old.guard) (with_reading Observe (reading_of (G.Guard.meaning e.old.guard) n)) result e.old e.new }
 {
-    match reading(e.guard(), n) {
-        Ok(r) => match e.observe(r) {
-            Ok(()) => None,
-            Err(x) => refused(place, x.number()),
-        },
-        Err(x) => refused(place, x.number()),
-    }
+    let r = reading(e.guard(), n)?;
+    e.observe(r)?;
+    Ok(None)
 }
 
 // The grant is spent before anything is logged.
-pub(crate) fn decide<G: Guard>(e: &mut Executive<G>, place: u32, b: u8) -> Option<Record>
-    ensures { Carried (G.Guard.meaning e.old.guard) place (calls (Decide b)) result e.old e.new }
+pub(crate) fn decide<G: Guard>(e: &mut Executive<G>, b: u8) -> Result<Option<Record>, RecordRefusal>
+    ensures { Carried (G.Guard.meaning e.old.guard) (calls (Decide b)) result e.old e.new }
 {
     let stored = e.reading();
-    match e.act(b) {
-        Ok(t) => switched(e.guard(), stored, t),
-        Err(x) => refused(place, x.number()),
-    }
+    let t = e.act(b)?;
+    Ok(switched(e.guard(), stored, t))
 }
 
-pub(crate) fn close<G: Guard>(e: &mut Executive<G>, place: u32) -> Option<Record>
-    ensures { Carried (G.Guard.meaning e.old.guard) place (calls Close) result e.old e.new }
+pub(crate) fn close<G: Guard>(e: &mut Executive<G>) -> Result<Option<Record>, RecordRefusal>
+    ensures { Carried (G.Guard.meaning e.old.guard) (calls Close) result e.old e.new }
 {
-    match e.close() {
-        Ok(t) => Some(closing(t)),
-        Err(x) => refused(place, x.number()),
-    }
+    let t = e.close()?;
+    Ok(Some(closing(t)))
 }

@@ -1,10 +1,13 @@
 ghost use Rattle.std.specs.Prelude.{◌≡◌};
 ghost use Rattle.records.specs.Readers.{unread};
-ghost use Rattle.runs.specs.Ran.{Dealt, NextDue, Kept, Came, Ran};
+ghost use Rattle.runs.specs.Asking.{asks};
+ghost use Rattle.runs.specs.Deeds.{Carried};
+ghost use Rattle.runs.specs.Ran.{NextDue, Kept, Came, Ran};
+ghost use Rattle.runs.specs.Refusals.{end_number};
 
 use crate::deed;
 use crate::due::Due;
-use crate::refusal::TapeRefusal;
+use crate::refusal::{RecordRefusal, RunRefusal, TapeRefusal};
 use crate::witness::{Unseen, Witness};
 use executive::held::Executive;
 use guard::Guard;
@@ -14,39 +17,41 @@ use records::record::Record;
 use records::refusal::WriteRefusal;
 use records::writer::write;
 
-// What a run came to: how many bytes of the log were written, and the number that ended it, or 0 at the tape's end.
-#[derive(Clone, Copy)]
+// What a run came to: how many bytes of the log were written, and the refusal that ended it, none at the tape's end.
+#[derive(Clone, Copy, Debug, PartialEq, Eq)]
 pub struct Ended {
     pub written: usize,
-    pub number: u8,
+    pub refusal: Option<RunRefusal>,
 }
 
-fn going_on(entry: Option<Record>) -> Due
-    ensures entry { result.entry ≡ entry }
-    ensures ending { result.ending ≡ 0 }
-{
-    Due { entry, ending: 0 }
-}
-
-fn deal<G: Guard>(e: &mut Executive<G>, place: u32, r: Record) -> Due
-    ensures { Dealt (G.Guard.meaning e.old.guard) place r result e.old e.new }
-{
-    match r {
-        Record::Begin { reading } => going_on(deed::begin(e, place, reading)),
-        Record::Decide { proposal } => going_on(deed::decide(e, place, proposal)),
-        Record::Observe { reading } => going_on(deed::observe(e, place, reading)),
-        Record::Close => going_on(deed::close(e, place)),
-        Record::Switch { .. } | Record::Refusal { .. } | Record::Closing { .. } => {
-            let number = TapeRefusal::LogRecord.number();
-            Due {
-                entry: deed::refused(place, number),
-                ending: number,
-            }
+impl Ended {
+    // The number of the refusal that ended the run; 0 at the tape's end.
+    pub fn number(&self) -> u8
+        ensures { result ≡ end_number self.now.refusal }
+    {
+        match self.refusal {
+            Some(x) => x.number(),
+            None => 0,
         }
     }
 }
 
-// Reads the next record of the tape and deals with it; none at the tape's end.
+// Makes the calls that the record asks for, and answers what it comes to.
+fn carry_out<G: Guard>(e: &mut Executive<G>, r: Record) -> Result<Option<Record>, RecordRefusal>
+    ensures { Carried (G.Guard.meaning e.old.guard) (asks (G.Guard.meaning e.old.guard) r) result e.old e.new }
+{
+    match r {
+        Record::Begin { reading } => deed::begin(e, reading),
+        Record::Decide { proposal } => deed::decide(e, proposal),
+        Record::Observe { reading } => deed::observe(e, reading),
+        Record::Close => deed::close(e),
+        Record::Switch { .. } | Record::Refusal { .. } | Record::Closing { .. } => {
+            Err(RecordRefusal::Tape(TapeRefusal::LogRecord))
+        }
+    }
+}
+
+// Reads the next record of the tape and carries it out; none at the tape's end.
 fn next_due<G: Guard, W: Witness<G>>(
     e: &mut Executive<G>,
     reader: &mut Reader<'_>,
@@ -60,17 +65,11 @@ fn next_due<G: Guard, W: Witness<G>>(
     match reader.next() {
         Ok(None) => None,
         Ok(Some(r)) => {
-            let due = deal(e, place, r);
+            let due = Due::of(place, carry_out(e, r));
             w.saw(place, r, due.entry, e);
             Some(due)
         }
-        Err(x) => {
-            let number = x.number();
-            Some(Due {
-                entry: deed::refused(place, number),
-                ending: number,
-            })
-        }
+        Err(x) => Some(Due::of(place, Err(RecordRefusal::Read(x)))),
     }
 }
 
@@ -101,19 +100,22 @@ fn run_through<G: Guard, W: Witness<G>>(
             Err(x) => {
                 return Ended {
                     written,
-                    number: x.number(),
+                    refusal: Some(RunRefusal::Write(x)),
                 };
             }
         }
-        if due.ending != 0 {
+        if let Some(refusal) = due.ending {
             return Ended {
                 written,
-                number: due.ending,
+                refusal: Some(refusal),
             };
         }
         place = place.wrapping_add(1);
     }
-    Ended { written, number: 0 }
+    Ended {
+        written,
+        refusal: None,
+    }
 }
 
 // The same as `run`, with a witness of each record that is dealt with. It has no part in what the run comes to.

@@ -1,7 +1,9 @@
 use Rattle.std.proofs.Common.{◌≡◌, Some, None, Ok, Err, refl, ap, ◌∙◌, rules}
 use Rattle.records.specs.Readers.{unread}
-use Rattle.records.specs.declared.record.Record.TheVariants.{Refusal}
 use Rattle.records.proofs.Opened.{read_none, read_some, read_err}
+use Rattle.runs.specs.Asking.{asks}
+use Rattle.runs.specs.Deeds.{CarriedAt}
+use Rattle.runs.specs.Refusals.{end_number}
 use Rattle.runs.proofs.Firsts.{none_due, record_due, fault_due}
 use Rattle.runs.proofs.run.next_due.Goals as goal
 
@@ -18,8 +20,17 @@ returns-in-Ok-Some g c =
     let d = c.args.e.now in
     let r = c.in-Ok-Some.r in
     let y : c.next.result ≡ Ok (Some r) = search rules in
-    let k = c.deal-due.ensures in
-    record { due = record_due (g.G.Guard.meaning d.guard) c.args.place t d r _ _ _ (read_some t _ _ c.next.ensures r y) k; guard = k.guard_is; mission = k.mission_is }
+    let k = c.carry_out.ensures c.args.place in
+    let o = c.of-due.ensures in
+    let m = g.G.Guard.meaning d.guard in
+    let due : CarriedAt m c.args.place (asks m r) c.of-due.result.entry (end_number c.of-due.result.ending) d c.carry_out.new.e = record {
+      entry_is = o.entry ∙ k.entry_is;
+      ending_is = ap end_number o.ending ∙ k.ending_is;
+      held_is = k.held_is;
+      guard_is = k.guard_is;
+      mission_is = k.mission_is;
+    } in
+    record { due = record_due m c.args.place t d r _ _ _ (read_some t _ _ c.next.ensures r y) due; guard = k.guard_is; mission = k.mission_is }
 
 pub returns-in-Err : goal.returns-in-Err
 returns-in-Err g c =
@@ -27,9 +38,8 @@ returns-in-Err g c =
     let d = c.args.e.now in
     let x = c.in-Err.x in
     let y : c.next.result ≡ Err x = search rules in
-    let n = c.number-number.ensures in
     record {
-      due = fault_due (g.G.Guard.meaning d.guard) c.args.place t d x _ _ _ (read_err t _ _ c.next.ensures x y) (c.refused.ensures ∙ ap (λ k. Some (Refusal c.args.place k)) n) n refl;
+      due = fault_due (g.G.Guard.meaning d.guard) c.args.place t d x _ _ _ (read_err t _ _ c.next.ensures x y) c.of.ensures.entry c.of.ensures.ending refl;
       guard = refl;
       mission = refl;
     }

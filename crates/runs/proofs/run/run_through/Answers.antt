@@ -1,4 +1,4 @@
-use Rattle.std.proofs.Common.{◌≡◌, [], sym, refl, subst}
+use Rattle.std.proofs.Common.{◌≡◌, [], sym, refl, subst, rules}
 use Rattle.executive.specs.Holding.{held}
 use Rattle.records.specs.Readers.{unread}
 use Rattle.runs.specs.Courses.{deeds_on}
@@ -17,21 +17,21 @@ returns-in-Err g c =
     let k = c.loop-due.invariant in
     let n = c.in-Some.ensures in
     let f = subst (λ p. First (g.G.Guard.meaning p) c.loop-due.place (unread c.loop-due.reader) c.in-Some.due c.loop-due.e c.next_due.new.e (unread c.next_due.new.reader)) k.guard_is n.due in
-    going_full _ _ _ _ _ _ _ _ _ k _ _ _ f _ _ _ n.guard n.mission (passed_over _ _ _ _ _ c.in-Err.ensures) refl c.number.ensures
+    going_full _ _ _ _ _ _ _ _ _ k _ _ _ f _ _ _ n.guard n.mission (passed_over _ _ _ _ _ c.in-Err.ensures) refl refl
 
-pub returns-then-due-ne0 : goal.returns-then-due-ne0
-returns-then-due-ne0 g c =
+pub returns-in-Some-ending : goal.returns-in-Some-ending
+returns-in-Some-ending g c =
     let k = c.loop-due.invariant in
     let n = c.in-Some.ensures in
     let f = subst (λ p. First (g.G.Guard.meaning p) c.loop-due.place (unread c.loop-due.reader) c.in-Some.due c.loop-due.e c.next_due.new.e (unread c.next_due.new.reader)) k.guard_is n.due in
-    going_ended _ _ _ _ _ _ _ _ _ k _ _ _ f _ _ (stored _ _ _ _ _ c.in-Ok.ensures) _ n.guard n.mission c.if-due-ne0.true refl refl
+    going_ended _ _ _ _ _ _ _ _ _ k _ _ _ f _ _ (stored _ _ _ _ _ c.in-Ok.ensures) _ _ n.guard n.mission c.in-Some-ending.is refl refl
 
 pub loop-due-preserved : goal.loop-due-preserved
 loop-due-preserved g c =
     let k = c.loop-due.invariant in
     let n = c.in-Some.ensures in
     let f = subst (λ p. First (g.G.Guard.meaning p) c.loop-due.place (unread c.loop-due.reader) c.in-Some.due c.loop-due.e c.next_due.new.e (unread c.next_due.new.reader)) k.guard_is n.due in
-    going_more _ _ _ _ _ _ _ _ _ k _ _ _ f _ _ (stored _ _ _ _ _ c.in-Ok.ensures) n.guard n.mission c.if-due-ne0.false
+    going_more _ _ _ _ _ _ _ _ _ k _ _ _ f _ _ (stored _ _ _ _ _ c.in-Ok.ensures) n.guard n.mission (search rules)
 
 pub returns : goal.returns
 returns g c =
