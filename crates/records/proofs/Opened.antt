@@ -1,11 +1,9 @@
 -- What was read, by what a reader answers.
-use Rattle.std.proofs.Common.{◌≡◌, ℕ, ◌≤◌, ◌↔◌, List, [], ◌∷◌, ◌++◌, length, get_or, drop, Some, None, Ok, Err, Option, Result, sym, refl, ap, ◌∙◌, arith}
-use Rattle.records.specs.Kinds.{kind_of}
-use Rattle.records.specs.Reads.{Found, read_kind, some_found, read}
+use Rattle.std.proofs.Common.{◌≡◌, ℕ, List, Some, None, Ok, Err, Option, Result, sym, refl, ◌∙◌, arith}
+use Rattle.records.specs.Reads.{Found, read}
 use Rattle.records.specs.Reading.{Next, answered, left}
 use Rattle.records.specs.declared.record.Record.{Record}
 use Rattle.records.specs.declared.refusal.ReadRefusal.{ReadRefusal}
-use Rattle.records.specs.declared.refusal.ReadRefusal.TheVariants.{Cut}
 
 module _ (t : List ℕ) (y : Result (Option Record) ReadRefusal) (rest : List ℕ) (n : Next t y rest) where
   none_so : (x : Result (Option Found) ReadRefusal) → ◌≡◌ {A = Result (Option Record) ReadRefusal} (Ok None) (answered x) → x ≡ Ok None

@@ -1,20 +1,15 @@
 -- Where a record is read, the bytes taken are that record's bytes.
-use Rattle.std.proofs.Common.{◌≡◌, ℕ, ◌+◌, ◌<◌, ◌≤◌, Bool, true, false, cond, eqb, ltb, List, [], ◌∷◌, ◌++◌, length, take, drop, Some, None, Ok, Err, Option, Result, sym, refl, ap, ◌∙◌, append_assoc, arith, length-drop, take-append-drop, length-take, drop-drop, take-add, Bor}
+use Rattle.std.proofs.Common.{◌≡◌, ℕ, ◌+◌, ◌<◌, ◌≤◌, Bool, true, false, cond, eqb, List, [], ◌∷◌, ◌++◌, length, take, drop, Some, Option, sym, refl, ap, ◌∙◌, append_assoc, arith, length-drop, take-append-drop, length-take, drop-drop, take-add}
 use Rattle.std.specs.List.{AllByRecursion}
-use Rattle.std.specs.Str.{bytes_eq}
 use Rattle.std.proofs.ByRecursion.{All-take, All-drop}
-use Rattle.std.proofs.lemmas.Slice.Eq.{bytes_eq-Decides}
-use Rattle.std.proofs.lemmas.Bool.{eqb-true, ltb-false}
+use Rattle.std.proofs.lemmas.Bool.{eqb-true}
 use Rattle.records.specs.Bytes.{reading_bytes, bytes, body, kind}
 use Rattle.records.specs.Kinds.{number_of, mark_of, length_of, kinds, kind_of, first_with}
 use Rattle.records.specs.LittleEndian.{le, signed_le}
-use Rattle.records.specs.Reads.{Found, field, signed_field, reading_at, record_of, read_body, read_kind}
-use Rattle.records.specs.Reading.{Decoded, Decodes}
+use Rattle.records.specs.Reads.{field, signed_field, reading_at, record_of}
 use Rattle.records.specs.declared.record.Kind.{Kind}
 use Rattle.records.specs.declared.record.Kind.TheVariants.{Begin, Decide, Observe, Close, Switch, Refusal, Closing}
 use Rattle.records.specs.declared.record.Record.{Record}
-use Rattle.records.specs.declared.refusal.ReadRefusal.TheVariants.{Cut, WrongMark, UnknownKind}
-use Rattle.records.specs.declared.refusal.ReadRefusal.{ReadRefusal}
 use Rattle.records.proofs.Endian.{le_number, signed_le_number}
 
 -- the bytes are bytes

@@ -83,7 +83,7 @@ impl<'a> Reader<'a> {
             [] => Ok(None),
             [m0, m1, kind, body @ ..] => {
                 let (record, rest) = decode([*m0, *m1], *kind, body)?;
-                self.tape = rest;
+                *self = Reader::new(rest);
                 Ok(Some(record))
             }
             _ => Err(ReadRefusal::Cut),

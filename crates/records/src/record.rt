@@ -36,16 +36,16 @@ impl TryFrom<u8> for Kind {
     ghost try_from_gives = { λ byte r. r ≡ ok_or (kind_of byte) UnknownKind };
 
     fn try_from(byte: u8) -> Result<Kind, ReadRefusal> {
-        Ok(match byte {
-            1 => Kind::Begin,
-            2 => Kind::Decide,
-            3 => Kind::Observe,
-            4 => Kind::Close,
-            5 => Kind::Switch,
-            6 => Kind::Refusal,
-            7 => Kind::Closing,
-            _ => return Err(ReadRefusal::UnknownKind),
-        })
+        match byte {
+            1 => Ok(Kind::Begin),
+            2 => Ok(Kind::Decide),
+            3 => Ok(Kind::Observe),
+            4 => Ok(Kind::Close),
+            5 => Ok(Kind::Switch),
+            6 => Ok(Kind::Refusal),
+            7 => Ok(Kind::Closing),
+            _ => Err(ReadRefusal::UnknownKind),
+        }
     }
 }
 

@@ -8,14 +8,17 @@ use crate::record::{Noted, Record};
 use crate::refusal::WriteRefusal;
 use arrayvec::ArrayVec;
 
-fn put(out: &mut ArrayVec<u8, 23>, bytes: &[u8])
+// Bytes of a record, of which the longest has 23.
+type Bytes = ArrayVec<u8, 23>;
+
+fn put(out: &mut Bytes, bytes: &[u8])
     requires { array_vec_len out.old + length bytes.now ≤ 23 }
     ensures { out.new.items ≡ out.old.items ++ bytes.now }
 {
     out.try_extend_from_slice(bytes).unwrap();
 }
 
-fn put_reading(out: &mut ArrayVec<u8, 23>, r: Noted)
+fn put_reading(out: &mut Bytes, r: Noted)
     requires { array_vec_len out.old + 14 ≤ 23 }
     ensures { out.new.items ≡ out.old.items ++ reading_bytes r }
 {
@@ -25,7 +28,7 @@ fn put_reading(out: &mut ArrayVec<u8, 23>, r: Noted)
     put(out, &r.charge.to_le_bytes());
 }
 
-fn put_body(out: &mut ArrayVec<u8, 23>, r: Record)
+fn put_body(out: &mut Bytes, r: Record)
     requires { array_vec_len out.old + length (body r) ≤ 23 }
     ensures { out.new.items ≡ out.old.items ++ body r }
 {
@@ -62,8 +65,8 @@ fn put_body(out: &mut ArrayVec<u8, 23>, r: Record)
     }
 }
 
-// The mark, the kind byte and the body; the longest record has 23 bytes.
-fn bytes(r: Record) -> ArrayVec<u8, 23>
+// The mark, the kind byte and the body.
+fn bytes(r: Record) -> Bytes
     ensures value { result.items ≡ bytes r }
     ensures fits { Fitting r }
 {

@@ -1,4 +1,4 @@
-use Rattle.std.proofs.Common.{◌≡◌, ◌≤◌, ◌-◌, length, ◌∙◌, rules, arith}
+use Rattle.std.proofs.Common.{◌≡◌, ◌∙◌, rules}
 use Rattle.records.specs.Bytes.{bytes}
 use Rattle.records.proofs.Round.{round}
 use Rattle.records.proofs.Placing.{record_put}
