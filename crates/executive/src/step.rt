@@ -90,7 +90,7 @@ impl<G: Guard> Executive<G> {
             mission: self.mission,
             tick,
             action: choice.action,
-            reason: choice.reason.number(),
+            reason: choice.reason.into(),
         };
         self.phase = Phase::Granted(r, grant);
         self.totals.given += 1;

@@ -14,12 +14,12 @@ pub enum Reason {
     Calm = 3,
 }
 
-impl Reason {
+impl From<Reason> for u8 {
     // The number by which grants and records name the reason.
-    pub fn number(self) -> u8
-        ensures { result ≡ number_of self }
-    {
-        self as u8
+    ghost from_gives = { λ reason n. n ≡ number_of reason };
+
+    fn from(reason: Reason) -> u8 {
+        reason as u8
     }
 }
 
