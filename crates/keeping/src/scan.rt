@@ -5,18 +5,13 @@ ghost use Rattle.keeping.specs.Found.{in_log, Found};
 use crate::control::{closed_by, start_after};
 use crate::planned::{LogFault, Planned};
 use records::reader::Reader;
-use records::record::Record;
+use records::record::{LOG_MARK, Record};
 use std::alloc::Global;
 
 fn is_log(r: Record) -> bool
     ensures { result ≡ in_log r }
 {
-    match r {
-        Record::Switch { .. } | Record::Refusal { .. } | Record::Closing { .. } => true,
-        Record::Begin { .. } | Record::Decide { .. } | Record::Observe { .. } | Record::Close => {
-            false
-        }
-    }
+    r.kind().mark() == LOG_MARK
 }
 
 // The ticks in which the planner had control, by the bytes of a log.
@@ -28,21 +23,17 @@ pub fn planner_ticks(heap: Global, log: &[u8]) -> Result<Planned, LogFault>
     let mut open = None;
     loop {
         let at = log.len() - reader.rest().len();
-        match reader.next() {
+        let r = match reader.next() {
+            Ok(Some(r)) => r,
             Ok(None) => return Ok(Planned { ranges, open }),
             Err(refusal) => return Err(LogFault::Unread(at, refusal)),
-            Ok(Some(r)) => {
-                if !is_log(r) {
-                    return Err(LogFault::OfTape(at));
-                }
-                if let Some(ticks) = closed_by(open, r) {
-                    match ranges.push(ticks) {
-                        Ok(()) => {}
-                        Err(_) => return Err(LogFault::Memory),
-                    }
-                }
-                open = start_after(open, r);
-            }
+        };
+        if !is_log(r) {
+            return Err(LogFault::OfTape(at));
         }
+        if let Some(ticks) = closed_by(open, r) {
+            ranges.push(ticks)?;
+        }
+        open = start_after(open, r);
     }
 }

@@ -1,11 +1,12 @@
 ghost use Rattle.std.specs.Prelude.{◌≡◌, ◌+◌, ◌*◌, ◌<◌};
 ghost use Rattle.text.specs.Hex.{glyph_of, meant, ReadAs};
+ghost use Rattle.text.specs.declared.hex.HexFault.TheVariants.{Memory};
 
-use std::alloc::Global;
+use std::alloc::{AllocFailed, Global};
 use std::fmt;
 
 // Why a text means no bytes.
-#[derive(Clone, Copy)]
+#[derive(Clone, Copy, Debug, PartialEq, Eq)]
 pub enum HexFault {
     // the byte at this offset is neither a digit nor white space
     NotDigit(usize),
@@ -13,6 +14,14 @@ pub enum HexFault {
     Odd,
     // no memory is left for the bytes
     Memory,
+}
+
+impl<T: Drop> From<AllocFailed<T>> for HexFault {
+    ghost from_gives = { λ _ fault. fault ≡ Memory };
+
+    fn from(_e: AllocFailed<T>) -> HexFault {
+        HexFault::Memory
+    }
 }
 
 // What a byte of a text is.
@@ -55,15 +64,9 @@ pub fn bytes(heap: Global, text: &[u8]) -> Result<Vec<u8>, HexFault>
         match Glyph::of(*c) {
             Glyph::Blank => {}
             Glyph::Other => return Err(HexFault::NotDigit(i)),
-            Glyph::Digit(d) => match high {
+            Glyph::Digit(d) => match high.take() {
                 None => high = Some(d),
-                Some(h) => {
-                    high = None;
-                    match bytes.push(byte(h, d)) {
-                        Ok(()) => {}
-                        Err(_) => return Err(HexFault::Memory),
-                    }
-                }
+                Some(h) => bytes.push(byte(h, d))?,
             },
         }
     }

@@ -1,16 +1,19 @@
 ghost use Rattle.std.specs.Prelude.{◌≡◌};
 ghost use Rattle.text.specs.Words.{reason_text, refusal_text};
 
+use guard::reason::Reason;
+
 // Why control stays or changes hands, by the number of the reason.
 pub fn reason(n: u8) -> &'static str
     ensures { result.now ≡ reason_text n }
 {
-    match n {
-        0 => "control stays",
-        1 => "no action was proposed, so control goes to the keeper",
-        2 => "the proposal is not admissible, so control goes to the keeper",
-        3 => "the reading is calm, so control goes to the planner",
-        _ => "unknown reason",
+    match Reason::try_from(n) {
+        Ok(Reason::Stays) => "control stays",
+        Ok(Reason::NoAction) => "no action was proposed, so control goes to the keeper",
+        Ok(Reason::NotAdmissible) =>
+            "the proposal is not admissible, so control goes to the keeper",
+        Ok(Reason::Calm) => "the reading is calm, so control goes to the planner",
+        Err(_) => "unknown reason",
     }
 }
 
