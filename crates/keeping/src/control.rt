@@ -5,6 +5,8 @@ use crate::ticks::Ticks;
 use guard::reason::Reason;
 use records::record::Record;
 
+// The start is a plain `Option`: a struct around it would only be wrapped and unwrapped in each of these functions.
+
 // The range that ends there, if one is open and it has a tick.
 fn range_to(start: Option<u32>, end: u32) -> Option<Ticks>
     ensures { result ≡ up_to start end }

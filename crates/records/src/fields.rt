@@ -4,7 +4,7 @@ ghost use Rattle.records.specs.Reads.{field, reading_at};
 use crate::record::Noted;
 use guard::reading::Reading;
 
-// So many bytes of the body, from the place on.
+// So many bytes of the body, from the place on. Fields have different widths, so each function says its own.
 fn bytes_at<const N: usize>(body: &[u8], at: usize) -> [u8; N]
     requires { at + N ≤ length body.now }
     ensures { result ≡ take N (drop at body.now) }

@@ -8,7 +8,7 @@ use crate::record::{Noted, Record};
 use crate::refusal::WriteRefusal;
 use arrayvec::ArrayVec;
 
-// Bytes of a record, of which the longest has 23.
+// Bytes of a record, of which the longest has 23. The parts need different room, so each function says how much.
 type Bytes = ArrayVec<u8, 23>;
 
 fn put(out: &mut Bytes, bytes: &[u8])

@@ -40,25 +40,18 @@ pub fn noted(x: i32, y: i32, z: i32, charge: u16) -> Noted {
 // The only record of the tape.
 pub fn only(rt: &impl Abort, tape: &[u8]) -> Result<Record, Fail> {
     let mut reader = Reader::new(tape);
-    match reader.next() {
-        Ok(Some(r)) => {
-            assert_eq!(rt; reader.rest().len(), 0);
-            Ok(r)
-        }
-        Ok(None) => Err(Fail::new("no record")),
-        Err(_) => Err(Fail::new("refused")),
-    }
+    let Some(r) = reader.next()? else {
+        return Err(Fail::new("no record"));
+    };
+    assert!(rt; reader.rest().is_empty());
+    Ok(r)
 }
 
 // Reading from the tape is refused under the number, and leaves the reader where it was.
 pub fn refused(rt: &impl Abort, tape: &[u8], number: u8) -> Result<(), Fail> {
     let mut reader = Reader::new(tape);
-    match reader.next() {
-        Ok(_) => Err(Fail::new("read")),
-        Err(e) => {
-            assert_eq!(rt; e.number(), number);
-            assert!(rt; reader.rest() == tape);
-            Ok(())
-        }
-    }
+    let refusal = reader.next().err();
+    assert_eq!(rt; refusal.map(|e| e.number()), Some(number));
+    assert!(rt; reader.rest() == tape);
+    Ok(())
 }

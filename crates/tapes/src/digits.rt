@@ -4,13 +4,9 @@ use text::hex;
 use text::hex::{Hex, HexFault};
 
 fn meant(rt: &(impl Abort + AllocGlobal), text: &str, bytes: &[u8]) -> Result<(), Fail> {
-    match hex::bytes(rt.alloc(), text.as_bytes()) {
-        Ok(v) => {
-            assert!(rt; v.as_slice() == bytes);
-            Ok(())
-        },
-        Err(_) => Err(Fail::new("no bytes")),
-    }
+    let v = hex::bytes(rt.alloc(), text.as_bytes())?;
+    assert!(rt; v.as_slice() == bytes);
+    Ok(())
 }
 
 #[test]
@@ -22,33 +18,21 @@ fn bytes_of_a_text(rt: HostRuntime) -> Result<(), Fail> {
     meant(&rt, "00 09 0a 0F a0 fF", &[0, 9, 10, 15, 160, 255])
 }
 
-fn odd(rt: &HostRuntime, text: &str) -> Result<(), Fail> {
-    match hex::bytes(rt.alloc(), text.as_bytes()) {
-        Err(HexFault::Odd) => Ok(()),
-        _ => Err(Fail::new("not odd")),
-    }
-}
-
-fn no_digit(rt: &(impl Abort + AllocGlobal), text: &str, at: usize) -> Result<(), Fail> {
-    match hex::bytes(rt.alloc(), text.as_bytes()) {
-        Err(HexFault::NotDigit(i)) => {
-            assert_eq!(rt; i, at);
-            Ok(())
-        },
-        _ => Err(Fail::new("all digits")),
-    }
+fn fault(rt: &(impl Abort + AllocGlobal), text: &str, fault: HexFault) -> Result<(), Fail> {
+    assert_eq!(rt; hex::bytes(rt.alloc(), text.as_bytes()).err(), Some(fault));
+    Ok(())
 }
 
 #[test]
 fn faults_of_a_text(rt: HostRuntime) -> Result<(), Fail> {
-    odd(&rt, "4")?;
-    odd(&rt, "4D 5\n")?;
-    no_digit(&rt, "4D 5G", 4)?;
-    no_digit(&rt, "x4D", 0)?;
-    no_digit(&rt, "4:", 1)?;
-    no_digit(&rt, "/0", 0)?;
-    no_digit(&rt, "@0", 0)?;
-    no_digit(&rt, "0`", 1)
+    fault(&rt, "4", HexFault::Odd)?;
+    fault(&rt, "4D 5\n", HexFault::Odd)?;
+    fault(&rt, "4D 5G", HexFault::NotDigit(4))?;
+    fault(&rt, "x4D", HexFault::NotDigit(0))?;
+    fault(&rt, "4:", HexFault::NotDigit(1))?;
+    fault(&rt, "/0", HexFault::NotDigit(0))?;
+    fault(&rt, "@0", HexFault::NotDigit(0))?;
+    fault(&rt, "0`", HexFault::NotDigit(1))
 }
 
 #[test]

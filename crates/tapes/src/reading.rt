@@ -71,20 +71,12 @@ fn wrong_marks(rt: HostRuntime) -> Result<(), Fail> {
 #[test]
 fn records_in_a_row(rt: HostRuntime) -> Result<(), Fail> {
     let mut reader = Reader::new(&[0x4D, 0x54, 2, 7, 0x4D, 0x54, 4]);
-    match reader.next() {
-        Ok(Some(Record::Decide { proposal })) => assert_eq!(rt; proposal, 7),
-        _ => return Err(Fail::new("no decide")),
-    }
+    assert_eq!(rt; reader.next(), Ok(Some(Record::Decide { proposal: 7 })));
     assert!(rt; reader.rest() == [0x4D, 0x54, 4].as_slice());
-    match reader.next() {
-        Ok(Some(Record::Close)) => {}
-        _ => return Err(Fail::new("no close")),
-    }
+    assert_eq!(rt; reader.next(), Ok(Some(Record::Close)));
     for _ in 0..2 {
-        match reader.next() {
-            Ok(None) => assert!(rt; reader.rest().is_empty()),
-            _ => return Err(Fail::new("not at the end")),
-        }
+        assert_eq!(rt; reader.next(), Ok(None));
+        assert!(rt; reader.rest().is_empty());
     }
     Ok(())
 }
@@ -92,9 +84,6 @@ fn records_in_a_row(rt: HostRuntime) -> Result<(), Fail> {
 #[test]
 fn refused_after_a_record(rt: HostRuntime) -> Result<(), Fail> {
     let mut reader = Reader::new(&[0x4D, 0x54, 4, 0x4D, 0x4C, 4]);
-    match reader.next() {
-        Ok(Some(Record::Close)) => {}
-        _ => return Err(Fail::new("no close")),
-    }
+    assert_eq!(rt; reader.next(), Ok(Some(Record::Close)));
     refused(&rt, reader.rest(), 13)
 }

@@ -2,6 +2,7 @@ use crate::common::{CLOSE, noted};
 use keeping::planned::LogFault;
 use keeping::scan::planner_ticks;
 use records::record::Record;
+use records::refusal::ReadRefusal;
 use records::writer::write;
 use std::alloc::Global;
 use std::process::Abort;
@@ -28,10 +29,7 @@ fn closing(tick: u32, given: u32) -> Record {
 fn write_all(log: &mut [u8], records: &[Record]) -> Result<usize, Fail> {
     let mut end = 0;
     for r in records {
-        match write(log, end, *r) {
-            Ok(next) => end = next,
-            Err(_) => return Err(Fail::new("no room")),
-        }
+        end = write(log, end, *r)?;
     }
     Ok(end)
 }
@@ -46,14 +44,11 @@ fn found(
 ) -> Result<(), Fail> {
     let mut log = [0; 256];
     let end = write_all(&mut log, records)?;
-    let Ok(planned) = planner_ticks(heap, &log[..end.min(256)]) else {
-        return Err(Fail::new("no log"));
-    };
+    let planned = planner_ticks(heap, &log[..end.min(256)])?;
     assert_eq!(rt; planned.open, open);
     assert_eq!(rt; planned.ranges.len(), ranges.len());
-    for (ticks, range) in planned.ranges.iter().zip(ranges.iter()) {
-        assert_eq!(rt; ticks.first, range.0);
-        assert_eq!(rt; ticks.end, range.1);
+    for (ticks, (first, end)) in planned.ranges.iter().zip(ranges) {
+        assert_eq!(rt; (ticks.first, ticks.end), (*first, *end));
     }
     Ok(())
 }
@@ -98,19 +93,11 @@ fn what_changes_nothing(rt: HostRuntime) -> Result<(), Fail> {
 
 #[test]
 fn no_logs(rt: HostRuntime) -> Result<(), Fail> {
-    match planner_ticks(rt.alloc(), &CLOSE) {
-        Err(LogFault::OfTape(at)) => assert_eq!(rt; at, 0),
-        _ => return Err(Fail::new("a log")),
-    }
-    match planner_ticks(rt.alloc(), &[0x4D, 0x4C, 6, 0, 0, 0, 0, 7, 0x4D, 0x54, 4]) {
-        Err(LogFault::OfTape(at)) => assert_eq!(rt; at, 8),
-        _ => return Err(Fail::new("a log")),
-    }
-    match planner_ticks(rt.alloc(), &[0x4D, 0x4C, 6, 0, 0, 0, 0, 7, 0x4D, 0x4C, 5]) {
-        Err(LogFault::Unread(at, _)) => {
-            assert_eq!(rt; at, 8);
-            Ok(())
-        },
-        _ => Err(Fail::new("a log")),
-    }
+    let tape = planner_ticks(rt.alloc(), &CLOSE);
+    assert_eq!(rt; tape.err(), Some(LogFault::OfTape(0)));
+    let mixed = planner_ticks(rt.alloc(), &[0x4D, 0x4C, 6, 0, 0, 0, 0, 7, 0x4D, 0x54, 4]);
+    assert_eq!(rt; mixed.err(), Some(LogFault::OfTape(8)));
+    let cut = planner_ticks(rt.alloc(), &[0x4D, 0x4C, 6, 0, 0, 0, 0, 7, 0x4D, 0x4C, 5]);
+    assert_eq!(rt; cut.err(), Some(LogFault::Unread(8, ReadRefusal::Cut)));
+    Ok(())
 }

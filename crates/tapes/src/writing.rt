@@ -7,26 +7,15 @@ use std::test::Fail;
 
 // No room for the record at the place, and the buffer as it was.
 fn no_room(rt: &impl Abort, buffer: &mut [u8], at: usize, r: Record) -> Result<(), Fail> {
-    match write(buffer, at, r) {
-        Ok(_) => Err(Fail::new("written")),
-        Err(e) => {
-            assert_eq!(rt; e.number(), 16);
-            for b in buffer.iter() {
-                assert_eq!(rt; *b, 0xAA);
-            }
-            Ok(())
-        }
-    }
+    let refusal = write(buffer, at, r).err();
+    assert_eq!(rt; refusal.map(|e| e.number()), Some(16));
+    assert!(rt; buffer.iter().all(|b| *b == 0xAA));
+    Ok(())
 }
 
 fn ends(rt: &impl Abort, buffer: &mut [u8], at: usize, r: Record, end: usize) -> Result<(), Fail> {
-    match write(buffer, at, r) {
-        Ok(next) => {
-            assert_eq!(rt; next, end);
-            Ok(())
-        },
-        Err(_) => Err(Fail::new("no room")),
-    }
+    assert_eq!(rt; write(buffer, at, r), Ok(end));
+    Ok(())
 }
 
 #[test]

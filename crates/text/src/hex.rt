@@ -54,7 +54,8 @@ fn byte(high: u8, low: u8) -> u8
     high * 16 + low
 }
 
-// The bytes that a hexadecimal text means, two digits each; white space counts for nothing.
+// The bytes that a hexadecimal text means, two digits each; white space counts for nothing,
+// also between the two digits of a byte, so the text is not read in pairs.
 pub fn bytes(heap: Global, text: &[u8]) -> Result<Vec<u8>, HexFault>
     ensures { ReadAs (meant text.now) result }
 {

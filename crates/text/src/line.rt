@@ -20,15 +20,9 @@ impl fmt::Display for At {
 impl fmt::Display for Line {
     fn fmt<W: fmt::Write>(&self, f: &mut fmt::Formatter<W>) -> fmt::Result {
         match self.0 {
-            Record::Begin { reading } => {
-                let at = At(reading);
-                write!(f, "begin: {at}")
-            }
+            Record::Begin { reading } => write!(f, "begin: {}", At(reading)),
             Record::Decide { proposal } => write!(f, "decide: proposal {proposal}"),
-            Record::Observe { reading } => {
-                let at = At(reading);
-                write!(f, "observe: {at}")
-            }
+            Record::Observe { reading } => write!(f, "observe: {}", At(reading)),
             Record::Close => write!(f, "close"),
             Record::Switch {
                 tick,
