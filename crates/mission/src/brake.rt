@@ -13,8 +13,7 @@ const MOST_TICKS: u16 = 1000;
 fn gust_at(gusts: &[u8], tick: u16) -> u8
     ensures { result ≡ slice_index gusts.now tick }
 {
-    let i = tick as usize;
-    if i < gusts.len() { gusts[i] } else { 0 }
+    gusts.get(usize::from(tick)).copied().unwrap_or(0)
 }
 
 // Drives the machine by its fallback until it is at rest, and prints a line for each tick.
@@ -25,10 +24,7 @@ pub fn brake<G: Guard>(
     start: Reading<G::State>,
     gusts: &[u8],
 ) -> io::Result<()> {
-    let from = Shown {
-        kind,
-        numbers: g.numbers(start.state),
-    };
+    let from = Shown::new(kind, g, start);
     let charge = start.charge;
     let verdict = if g.recoverable(start) {
         "recoverable"
@@ -45,17 +41,11 @@ pub fn brake<G: Guard>(
         let action = g.fallback(r.state);
         r = fall_back(g, r, gust_at(gusts, tick));
         ticks = tick + 1;
-        let to = Shown {
-            kind,
-            numbers: g.numbers(r.state),
-        };
+        let to = Shown::new(kind, g, r);
         let charge = r.charge;
         println!(rt; "tick {ticks}: action {action}, {to}, charge {charge}")?;
     }
-    let end = Shown {
-        kind,
-        numbers: g.numbers(r.state),
-    };
+    let end = Shown::new(kind, g, r);
     let outcome = if g.ticks(r.state) == 0 {
         "at rest"
     } else {

@@ -1,12 +1,10 @@
 use crate::fault::Fault;
 use crate::machine::{Kind, Shown};
 use executive::held::Executive;
-use executive::view::Control;
 use guard::Guard;
 use guard::fallback::lowest;
 use guard::reading::Reading;
-use guard::refusal::Refusal;
-use history::calls::CallRefusal;
+use guard::reason::Reason;
 
 // A proposal of the planner and a gust for each tick: good actions, bad ones, and bytes that are no action.
 const PLAN: [(u8, u8); 24] = [
@@ -36,24 +34,15 @@ const PLAN: [(u8, u8); 24] = [
     (4, 1),
 ];
 
-fn refused<'a>(x: CallRefusal) -> Fault<'a> {
-    Fault::Call(x.number())
-}
-
-pub fn who(control: Control) -> &'static str {
-    match control {
-        Control::Planner => "planner",
-        Control::Keeper => "keeper",
-    }
-}
-
 // The reason of a grant in words.
 fn why(reason: u8) -> &'static str {
-    match reason {
-        1 => "no action was proposed, control goes to the keeper",
-        2 => "the proposal is not admissible, control goes to the keeper",
-        3 => "the reading is calm, control goes to the planner",
-        _ => "control stays",
+    match Reason::try_from(reason) {
+        Ok(Reason::NoAction) => "no action was proposed, control goes to the keeper",
+        Ok(Reason::NotAdmissible) => {
+            "the proposal is not admissible, control goes to the keeper"
+        }
+        Ok(Reason::Calm) => "the reading is calm, control goes to the planner",
+        Ok(Reason::Stays) | Err(_) => "control stays",
     }
 }
 
@@ -66,40 +55,24 @@ pub fn demo<'a, G: Guard + Copy>(
 ) -> Result<(), Fault<'a>> {
     let mut e = Executive::new(*g, 1);
     let mut r = start;
-    match e.begin(r) {
-        Ok(()) => {}
-        Err(x) => return Err(refused(x)),
-    }
+    e.begin(r)?;
     for (b, w) in PLAN {
-        let control = who(e.control());
-        let t = match e.act(b) {
-            Ok(t) => t,
-            Err(x) => return Err(refused(x)),
-        };
+        let control = e.control();
+        let t = e.act(b)?;
         r = lowest(g, r, t.action, w);
-        match e.observe(r) {
-            Ok(()) => {}
-            Err(x) => return Err(refused(x)),
-        }
+        e.observe(r)?;
         let (tick, action, because) = (t.tick, t.action, why(t.reason));
-        let at = Shown {
-            kind,
-            numbers: g.numbers(r.state),
-        };
+        let at = Shown::new(kind, g, r);
         let charge = r.charge;
         println!(rt;
             "tick {tick}: {control}, proposed {b}, granted {action}, {because}; then {at}, charge {charge}"
         )?;
     }
-    match e.close() {
-        Ok(n) => {
-            let (tick, given, spent) = (n.tick, n.given, n.spent);
-            let (gains, losses) = (n.gains, n.losses);
-            println!(rt;
-                "closed after {tick} ticks: given {given}, spent {spent}, gains {gains}, losses {losses}"
-            )?;
-            Ok(())
-        }
-        Err(x) => Err(refused(x)),
-    }
+    let n = e.close()?;
+    let (tick, given, spent) = (n.tick, n.given, n.spent);
+    let (gains, losses) = (n.gains, n.losses);
+    println!(rt;
+        "closed after {tick} ticks: given {given}, spent {spent}, gains {gains}, losses {losses}"
+    )?;
+    Ok(())
 }

@@ -1,25 +1,29 @@
+use guard::refusal::{Refusal, StateRefusal};
+use history::calls::CallRefusal;
+use layers::draft::refusal::DraftRefusal;
+use machines::making::MakingRefusal;
+use records::refusal::ReadRefusal;
 use std::alloc::{AllocError, AllocFailed};
 use std::{fmt, io};
-use text::words::refusal;
+use text::words;
 
 const USAGE: &str =
     "usage: mission brake|judge MACHINE LAYER.. STATE [--charge N] [--gusts W,W,..], mission calls MACHINE LAYER.. [--mission N] FILE, mission run MACHINE LAYER.. [--mission N] [--log-size BYTES] [--log FILE] [--quiet] [--hex] TAPE, mission demo MACHINE, mission show [--hex] FILE, or mission keep [--hex] LOG, with cart:LENGTH or drone:X,Y,Z and fence:REGION+.. or battery:RESERVE";
 
-// What is wrong with a word. Where the library refuses it, the number of the refusal.
-#[derive(Clone, Copy)]
+// What is wrong with a word.
+#[derive(Clone, Copy, Debug, PartialEq, Eq)]
 pub enum Why {
     NoCommand,
     NoMachine,
-    NoRail(u8),
-    NoHall(u8),
-    NoState(u8),
+    NotMade(MakingRefusal),
+    NoState(StateRefusal),
     CartForm,
     DroneForm,
     HallForm,
     NoLayer,
     ManyLayers,
     RegionForm,
-    NoRegion(u8),
+    NotAdded(DraftRefusal),
     NotReserve,
     NotNumbers,
     NotCharge,
@@ -35,20 +39,24 @@ pub enum Why {
 }
 
 impl Why {
-    // The number under which the library refuses the word.
+    // The number under which the library refuses the word, where it does.
     fn refusal(self) -> Option<u8> {
         match self {
-            Why::NoRail(n) | Why::NoHall(n) | Why::NoState(n) | Why::NoRegion(n) => Some(n),
+            Why::NotMade(x) => Some(x.number()),
+            Why::NoState(x) => Some(x.number()),
+            Why::NotAdded(x) => Some(x.number()),
             _ => None,
         }
     }
+}
 
-    fn text(self) -> &'static str {
-        match self {
+impl fmt::Display for Why {
+    fn fmt<W: fmt::Write>(&self, f: &mut fmt::Formatter<W>) -> fmt::Result {
+        f.write_str(match self {
             Why::NoCommand => "no such command",
             Why::NoMachine => "no such machine",
-            Why::NoRail(_) => "no such rail",
-            Why::NoHall(_) => "no such hall",
+            Why::NotMade(MakingRefusal::RailLength) => "no such rail",
+            Why::NotMade(MakingRefusal::HallSize) => "no such hall",
             Why::NoState(_) => "no such state",
             Why::CartForm => "a cart's state is written PLACE,SPEED",
             Why::DroneForm => "a drone's state is written X,Y,Z",
@@ -56,7 +64,7 @@ impl Why {
             Why::NoLayer => "no such layer",
             Why::ManyLayers => "more than three layers",
             Why::RegionForm => "a fence is written fence:X,Y,Z,X,Y,Z+..",
-            Why::NoRegion(_) => "not a region that can be added",
+            Why::NotAdded(_) => "not a region that can be added",
             Why::NotReserve => "not a reserve from 0 to 65535",
             Why::NotNumbers => "not whole numbers",
             Why::NotCharge => "not a charge from 0 to 65535",
@@ -69,7 +77,25 @@ impl Why {
             Why::NoGust => "the machine has no such gust",
             Why::NoOption => "no such option",
             Why::NoValue => "no value follows the option",
-        }
+        })
+    }
+}
+
+impl From<MakingRefusal> for Why {
+    fn from(x: MakingRefusal) -> Why {
+        Why::NotMade(x)
+    }
+}
+
+impl From<StateRefusal> for Why {
+    fn from(x: StateRefusal) -> Why {
+        Why::NoState(x)
+    }
+}
+
+impl From<DraftRefusal> for Why {
+    fn from(x: DraftRefusal) -> Why {
+        Why::NotAdded(x)
     }
 }
 
@@ -82,12 +108,12 @@ pub enum Fault<'a> {
     Line(usize),
     // the byte at this offset of a text is no hexadecimal digit
     Digit(usize, &'a str),
-    // at this offset of a log no record can be read, for the refusal of this number
-    Unread(usize, u8, &'a str),
+    // at this offset of a log no record can be read
+    Unread(usize, ReadRefusal, &'a str),
     // at this offset a record of a tape stands in a log
     OfTape(usize, &'a str),
-    // the executive refuses a call, under this number
-    Call(u8),
+    // the executive refuses a call
+    Call(CallRefusal),
     Output,
     Memory,
 }
@@ -95,21 +121,18 @@ pub enum Fault<'a> {
 impl fmt::Display for Fault<'_> {
     fn fmt<W: fmt::Write>(&self, f: &mut fmt::Formatter<W>) -> fmt::Result {
         match self {
-            Fault::Usage => write!(f, "{USAGE}"),
+            Fault::Usage => f.write_str(USAGE),
             Fault::Word(why, word) => {
-                let text = why.text();
-                write!(f, "{text}: '{word}'")?;
+                write!(f, "{why}: '{word}'")?;
                 match why.refusal() {
                     Some(number) => write!(f, ": refused {number}"),
                     None => Ok(()),
                 }
             }
-            Fault::Line(i) => {
-                let line = i.saturating_add(1);
-                write!(f, "line {line} is no call")
-            }
-            Fault::Unread(at, number, word) => {
-                let why = refusal(*number);
+            Fault::Line(i) => write!(f, "line {} is no call", i.saturating_add(1)),
+            Fault::Unread(at, refusal, word) => {
+                let number = refusal.number();
+                let why = words::refusal(number);
                 write!(f, "{why}: byte {at} of '{word}': refused {number}")
             }
             Fault::OfTape(at, word) => {
@@ -119,10 +142,19 @@ impl fmt::Display for Fault<'_> {
                 )
             }
             Fault::Digit(at, word) => write!(f, "byte {at} is no hexadecimal digit: '{word}'"),
-            Fault::Call(number) => write!(f, "the executive refuses a call: refused {number}"),
-            Fault::Output => write!(f, "standard output cannot be written"),
-            Fault::Memory => write!(f, "no memory is left"),
+            Fault::Call(refusal) => {
+                let number = refusal.number();
+                write!(f, "the executive refuses a call: refused {number}")
+            }
+            Fault::Output => f.write_str("standard output cannot be written"),
+            Fault::Memory => f.write_str("no memory is left"),
         }
+    }
+}
+
+impl From<CallRefusal> for Fault<'_> {
+    fn from(x: CallRefusal) -> Self {
+        Fault::Call(x)
     }
 }
 

@@ -4,7 +4,14 @@ use std::{fs, io};
 use text::hex;
 use text::hex::HexFault;
 
-// The bytes of a file, or of standard input where the word is `-`.
+// Where bytes come from: a file, or standard input where the word is `-`.
+#[derive(Clone, Copy)]
+pub enum Source<'a> {
+    Binary(&'a str),
+    // hexadecimal text
+    Hex(&'a str),
+}
+
 fn contents(rt: &HostRuntime, word: &str) -> io::Result<Vec<u8>> {
     if word != "-" {
         return fs::read(rt, word);
@@ -14,35 +21,45 @@ fn contents(rt: &HostRuntime, word: &str) -> io::Result<Vec<u8>> {
     Ok(bytes)
 }
 
-fn from_hex<'a>(rt: &HostRuntime, text: &[u8], word: &'a str) -> Result<Vec<u8>, Fault<'a>> {
-    match hex::bytes(rt.alloc(), text) {
-        Ok(bytes) => Ok(bytes),
-        Err(HexFault::NotDigit(at)) => Err(Fault::Digit(at, word)),
-        Err(HexFault::Odd) => Err(Fault::Word(Why::OddDigits, word)),
-        Err(HexFault::Memory) => Err(Fault::Memory),
+fn no_hex<'a>(fault: HexFault, word: &'a str) -> Fault<'a> {
+    match fault {
+        HexFault::NotDigit(at) => Fault::Digit(at, word),
+        HexFault::Odd => Fault::Word(Why::OddDigits, word),
+        HexFault::Memory => Fault::Memory,
     }
 }
 
-// The same, or what its hexadecimal text means.
-pub fn bytes<'a>(rt: &HostRuntime, hex: bool, word: &'a str) -> Result<Vec<u8>, Fault<'a>> {
-    match contents(rt, word) {
-        Ok(bytes) if hex => from_hex(rt, bytes.as_slice(), word),
-        Ok(bytes) => Ok(bytes),
-        Err(_) => Err(Fault::Word(Why::NoBytes, word)),
+impl<'a> Source<'a> {
+    // The source of `COMMAND [--hex] FILE`.
+    pub fn named(words: &'a [String]) -> Result<Source<'a>, Fault<'a>> {
+        match words {
+            [word] => match word.as_str() {
+                "--hex" => Err(Fault::Usage),
+                file => Ok(Source::Binary(file)),
+            },
+            [option, word] => match (option.as_str(), word.as_str()) {
+                ("--hex", file) | (file, "--hex") => Ok(Source::Hex(file)),
+                (other, _) => Err(Fault::Word(Why::NoOption, other)),
+            },
+            _ => Err(Fault::Usage),
+        }
     }
-}
 
-// The file of `COMMAND [--hex] FILE`, and whether it is hexadecimal text.
-pub fn named<'a>(words: &'a [String]) -> Result<(bool, &'a str), Fault<'a>> {
-    match words {
-        [word] => match word.as_str() {
-            "--hex" => Err(Fault::Usage),
-            file => Ok((false, file)),
-        },
-        [option, word] => match (option.as_str(), word.as_str()) {
-            ("--hex", file) | (file, "--hex") => Ok((true, file)),
-            (other, _) => Err(Fault::Word(Why::NoOption, other)),
-        },
-        _ => Err(Fault::Usage),
+    pub fn word(self) -> &'a str {
+        match self {
+            Source::Binary(word) | Source::Hex(word) => word,
+        }
+    }
+
+    // All its bytes.
+    pub fn bytes(self, rt: &HostRuntime) -> Result<Vec<u8>, Fault<'a>> {
+        let word = self.word();
+        let bytes = contents(rt, word).map_err(|_| Fault::Word(Why::NoBytes, word))?;
+        match self {
+            Source::Binary(_) => Ok(bytes),
+            Source::Hex(_) => {
+                hex::bytes(rt.alloc(), bytes.as_slice()).map_err(|fault| no_hex(fault, word))
+            }
+        }
     }
 }

@@ -10,10 +10,7 @@ pub fn judge<G: Guard>(
     g: &G,
     r: Reading<G::State>,
 ) -> io::Result<()> {
-    let at = Shown {
-        kind,
-        numbers: g.numbers(r.state),
-    };
+    let at = Shown::new(kind, g, r);
     let charge = r.charge;
     println!(rt; "{at}, charge {charge}")?;
     for a in 0..g.action_count() {

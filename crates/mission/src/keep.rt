@@ -1,6 +1,5 @@
 use crate::fault::Fault;
-use crate::input;
-use guard::refusal::Refusal;
+use crate::input::Source;
 use keeping::planned::{LogFault, Planned};
 use keeping::scan::planner_ticks;
 use std::io;
@@ -29,14 +28,14 @@ fn print(rt: &HostRuntime, found: &Planned) -> io::Result<()> {
 
 // `mission keep [--hex] LOG`: the ticks in which the planner had control.
 pub fn run<'a>(rt: &HostRuntime, words: &'a [String]) -> Result<(), Fault<'a>> {
-    let (hex, word) = input::named(words)?;
-    let log = input::bytes(rt, hex, word)?;
+    let source = Source::named(words)?;
+    let (word, log) = (source.word(), source.bytes(rt)?);
     match planner_ticks(rt.alloc(), log.as_slice()) {
         Ok(found) => {
             print(rt, &found)?;
             Ok(())
         }
-        Err(LogFault::Unread(at, refusal)) => Err(Fault::Unread(at, refusal.number(), word)),
+        Err(LogFault::Unread(at, refusal)) => Err(Fault::Unread(at, refusal, word)),
         Err(LogFault::OfTape(at)) => Err(Fault::OfTape(at, word)),
         Err(LogFault::Memory) => Err(Fault::Memory),
     }

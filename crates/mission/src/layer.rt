@@ -1,7 +1,6 @@
 use crate::fault::Why;
 use crate::words;
 use guard::geometry::{Point, Region};
-use guard::refusal::Refusal;
 use layers::draft::Draft;
 
 // A layer of a command, before it stands on a guard.
@@ -13,17 +12,13 @@ pub enum Layer {
 
 // The region of a word such as `8,0,0,9,20,0`: the lower corner, then the upper.
 fn region(word: &str) -> Result<Region, Why> {
-    let n = words::numbers(6, Why::RegionForm, word)?;
+    let [x, y, z, to_x, to_y, to_z] = words::numbers::<6>(Why::RegionForm, word)?;
     Ok(Region {
-        low: Point {
-            x: n[0],
-            y: n[1],
-            z: n[2],
-        },
+        low: Point { x, y, z },
         high: Point {
-            x: n[3],
-            y: n[4],
-            z: n[5],
+            x: to_x,
+            y: to_y,
+            z: to_z,
         },
     })
 }
@@ -35,22 +30,21 @@ fn draft(word: &str) -> Result<Draft, Why> {
         return Ok(draft);
     }
     for part in word.split('+') {
-        match draft.add(region(part)?) {
-            Ok(()) => {}
-            Err(refusal) => return Err(Why::NoRegion(refusal.number())),
-        }
+        draft.add(region(part)?)?;
     }
     Ok(draft)
 }
 
-// The layer of a word such as `fence:8,0,0,9,20,0` or `battery:10`.
-pub fn read(word: &str) -> Result<Layer, Why> {
-    match word.split_once(':') {
-        Some(("fence", regions)) => Ok(Layer::Fence(draft(regions)?)),
-        Some(("battery", reserve)) => match reserve.parse::<u16>() {
-            Ok(reserve) => Ok(Layer::Battery(reserve)),
-            Err(_) => Err(Why::NotReserve),
-        },
-        _ => Err(Why::NoLayer),
+impl Layer {
+    // The layer of a word such as `fence:8,0,0,9,20,0` or `battery:10`.
+    pub fn read(word: &str) -> Result<Layer, Why> {
+        match word.split_once(':') {
+            Some(("fence", regions)) => Ok(Layer::Fence(draft(regions)?)),
+            Some(("battery", reserve)) => match reserve.parse::<u16>() {
+                Ok(reserve) => Ok(Layer::Battery(reserve)),
+                Err(_) => Err(Why::NotReserve),
+            },
+            _ => Err(Why::NoLayer),
+        }
     }
 }

@@ -1,34 +1,66 @@
-ghost use Rattle.std.specs.Prelude.{◌≡◌};
-ghost use Rattle.mission.specs.Kinds.{width as places, form as misformed};
+ghost use Rattle.std.specs.Prelude.{◌≡◌, ◌⊎◌, IfOk, IfErr};
+ghost use Rattle.mission.specs.Kinds.{form, Padded};
+ghost use Rattle.mission.specs.declared.fault.Why.TheVariants.{NotNumbers};
 
 use crate::fault::Why;
+use crate::words;
+use cart::Cart;
+use drone::Drone;
+use guard::Guard;
+use guard::reading::Reading;
 use std::fmt;
 
 // Which machine a command is about: how its states are written and shown.
-#[derive(Clone, Copy)]
+#[derive(Clone, Copy, Debug, PartialEq, Eq)]
 pub enum Kind {
     Cart,
     Drone,
 }
 
 impl Kind {
-    // How many numbers a state is written with; the rest of its three are 0.
-    pub fn width(self) -> usize
-        ensures { result ≡ places self }
+    // The three numbers of a state as it is written: a cart's with two, and 0 for the third.
+    pub fn numbers(self, word: &str) -> Result<(i32, i32, i32), Why>
+        ensures padded { IfOk result (Padded self) }
+        ensures form { IfErr result (λ e. (e ≡ form self) ⊎ (e ≡ NotNumbers)) }
     {
         match self {
-            Kind::Cart => 2,
-            Kind::Drone => 3,
+            Kind::Cart => {
+                let [x, v] = words::numbers::<2>(Why::CartForm, word)?;
+                Ok((x, v, 0))
+            }
+            Kind::Drone => {
+                let [x, y, z] = words::numbers::<3>(Why::DroneForm, word)?;
+                Ok((x, y, z))
+            }
         }
     }
 
-    // What is wrong with a state that is written with more numbers or fewer.
-    pub fn form(self) -> Why
-        ensures { result ≡ misformed self }
-    {
-        match self {
-            Kind::Cart => Why::CartForm,
-            Kind::Drone => Why::DroneForm,
+    // The machine's state of this word.
+    pub fn state<G: Guard>(self, g: &G, word: &str) -> Result<G::State, Why> {
+        Ok(g.state(self.numbers(word)?)?)
+    }
+}
+
+// A machine of a command, with the numbers of a state at rest in the middle of its hall.
+#[derive(Clone, Copy)]
+pub enum Machine {
+    Cart(Cart, (i32, i32, i32)),
+    Drone(Drone, (i32, i32, i32)),
+}
+
+impl Machine {
+    // The machine of a word such as `cart:1000` or `drone:20,20,10`.
+    pub fn read(word: &str) -> Result<Machine, Why> {
+        match word.split_once(':') {
+            Some(("cart", length)) => {
+                let n = words::number(length)?;
+                Ok(Machine::Cart(Cart::new(n)?, (n / 2, 0, 0)))
+            }
+            Some(("drone", size)) => {
+                let [x, y, z] = words::numbers::<3>(Why::HallForm, size)?;
+                Ok(Machine::Drone(Drone::new(x, y, z)?, (x / 2, y / 2, 0)))
+            }
+            _ => Err(Why::NoMachine),
         }
     }
 }
@@ -36,8 +68,18 @@ impl Kind {
 // A state by its numbers, in the machine's words.
 #[derive(Clone, Copy)]
 pub struct Shown {
-    pub kind: Kind,
-    pub numbers: (i32, i32, i32),
+    kind: Kind,
+    numbers: (i32, i32, i32),
+}
+
+impl Shown {
+    // The state of the reading.
+    pub fn new<G: Guard>(kind: Kind, g: &G, r: Reading<G::State>) -> Shown {
+        Shown {
+            kind,
+            numbers: g.numbers(r.state),
+        }
+    }
 }
 
 impl fmt::Display for Shown {

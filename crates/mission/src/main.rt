@@ -13,22 +13,23 @@ mod options;
 mod running;
 mod script;
 mod show;
+mod task;
 mod telling;
 mod words;
 
-use commands::Task;
 use fault::{Fault, Why};
 use std::env;
 use std::process::ExitCode;
+use task::{Brake, Calls, Judge, Run};
 
 fn run<'a>(rt: &HostRuntime, words: &'a [String]) -> Result<(), Fault<'a>> {
     match words {
         [command, rest @ ..] => match command.as_str() {
-            "brake" => commands::run(rt, Task::Brake, rest),
-            "judge" => commands::run(rt, Task::Judge, rest),
+            "brake" => commands::run::<Brake>(rt, rest),
+            "judge" => commands::run::<Judge>(rt, rest),
             "demo" => commands::show(rt, rest),
-            "calls" => commands::run(rt, Task::Calls, rest),
-            "run" => commands::run(rt, Task::Run, rest),
+            "calls" => commands::run::<Calls>(rt, rest),
+            "run" => commands::run::<Run>(rt, rest),
             "keep" => keep::run(rt, rest),
             "show" => show::run(rt, rest),
             other => Err(Fault::Word(Why::NoCommand, other)),

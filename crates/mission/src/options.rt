@@ -1,104 +1,67 @@
-ghost use Rattle.std.specs.Prelude.{◌≤◌, length};
+ghost use Rattle.std.specs.Prelude.{◌≤◌, length, IfOk};
 
-use crate::commands::Task;
 use crate::fault::{Fault, Why};
+use crate::task::Task;
 use crate::words;
 use std::alloc::Global;
 
-// The options that have a value.
-#[derive(Clone, Copy)]
-enum Name {
-    Charge,
-    Gusts,
-    Mission,
-    LogSize,
-    Log,
-}
-
-// What is asked by options: the charge, the full one where none is given; the mission's number; of a run the size of its log,
-// whether only its last line is printed, and whether its tape is hexadecimal text; and a word.
+// What is asked by options.
 #[derive(Clone, Copy)]
 pub struct Options<'a> {
+    // the full charge where none is given
     pub charge: u16,
+    // the gusts to brake under
+    pub gusts: Option<&'a str>,
+    // the mission's number
     pub mission: u32,
+    // how many bytes the log of a run has
     pub log_size: Option<usize>,
+    // the file that the log of a run goes to
+    pub log: Option<&'a str>,
+    // whether only the last line of a run is printed
     pub quiet: bool,
+    // whether the tape of a run is hexadecimal text
     pub hex: bool,
-    // the gusts to brake under, or the file that the log of a run goes to; empty where none is given
-    pub word: &'a str,
-    // the option that waits for its value
-    waiting: Option<Name>,
-}
-
-impl Name {
-    fn of(task: Task, word: &str) -> Option<Name> {
-        match (task, word) {
-            (Task::Brake | Task::Judge, "--charge") => Some(Name::Charge),
-            (Task::Brake, "--gusts") => Some(Name::Gusts),
-            (Task::Calls | Task::Run, "--mission") => Some(Name::Mission),
-            (Task::Run, "--log-size") => Some(Name::LogSize),
-            (Task::Run, "--log") => Some(Name::Log),
-            _ => None,
-        }
-    }
-}
-
-fn is_flag(task: Task, word: &str) -> bool {
-    matches!((task, word), (Task::Run, "--quiet" | "--hex"))
 }
 
 impl<'a> Options<'a> {
-    fn set(self, name: Name, value: &'a str) -> Result<Options<'a>, Why> {
-        let set = Options {
-            waiting: None,
-            ..self
-        };
-        match name {
-            Name::Charge => Ok(Options {
+    fn none() -> Options<'a> {
+        Options {
+            charge: u16::MAX,
+            gusts: None,
+            mission: 0,
+            log_size: None,
+            log: None,
+            quiet: false,
+            hex: false,
+        }
+    }
+
+    // With an option that has a value.
+    fn with(self, option: &str, value: &'a str) -> Result<Options<'a>, Why> {
+        match option {
+            "--charge" => Ok(Options {
                 charge: words::charge(value)?,
-                ..set
-            }),
-            Name::Mission => match value.parse::<u32>() {
-                Ok(mission) => Ok(Options { mission, ..set }),
-                Err(_) => Err(Why::NotMission),
-            },
-            Name::LogSize => match value.parse::<usize>() {
-                Ok(size) => Ok(Options {
-                    log_size: Some(size),
-                    ..set
-                }),
-                Err(_) => Err(Why::NotSize),
-            },
-            Name::Gusts | Name::Log => Ok(Options { word: value, ..set }),
-        }
-    }
-
-    // With an option by its name, which has no value or waits for it.
-    fn named(self, task: Task, word: &str) -> Result<Options<'a>, Why> {
-        match (word, Name::of(task, word)) {
-            (_, Some(name)) => Ok(Options {
-                waiting: Some(name),
                 ..self
             }),
-            ("--quiet", None) if is_flag(task, word) => Ok(Options {
-                quiet: true,
+            "--gusts" => Ok(Options {
+                gusts: Some(value),
                 ..self
             }),
-            ("--hex", None) if is_flag(task, word) => Ok(Options { hex: true, ..self }),
+            "--mission" => Ok(Options {
+                mission: value.parse::<u32>().map_err(|_| Why::NotMission)?,
+                ..self
+            }),
+            "--log-size" => Ok(Options {
+                log_size: Some(value.parse::<usize>().map_err(|_| Why::NotSize)?),
+                ..self
+            }),
+            // the empty word names no file
+            "--log" => Ok(Options {
+                log: Some(value).filter(|file| !file.is_empty()),
+                ..self
+            }),
             _ => Err(Why::NoOption),
-        }
-    }
-
-    // With the next word of a command.
-    fn next(self, task: Task, word: &'a str) -> Result<Options<'a>, Fault<'a>> {
-        let next = match self.waiting {
-            Some(name) => self.set(name, word),
-            None if word.starts_with("--") => self.named(task, word),
-            None => return Ok(self),
-        };
-        match next {
-            Ok(options) => Ok(options),
-            Err(why) => Err(Fault::Word(why, word)),
         }
     }
 }
@@ -107,59 +70,59 @@ impl<'a> Options<'a> {
 pub fn first(words: &[String]) -> usize
     ensures { result ≤ length words.now }
 {
-    for (i, word) in words.iter().enumerate() {
-        if word.as_str().starts_with("--") {
-            return i;
-        }
-    }
-    words.len()
+    words
+        .iter()
+        .position(|word| word.as_str().starts_with("--"))
+        .unwrap_or(words.len())
 }
 
-// The words that are neither options nor their values.
-pub fn places<'a>(
+// Takes the option of the task, with its value if it has one, and answers the words that are left after it.
+fn take<'a, T: Task>(
+    options: &mut Options<'a>,
+    option: &'a str,
+    after: &'a [String],
+) -> Result<&'a [String], Fault<'a>>
+    ensures { IfOk result (λ left. length left.now ≤ length after.now) }
+{
+    if !T::takes(option) {
+        return Err(Fault::Word(Why::NoOption, option));
+    }
+    match (option, after) {
+        ("--quiet", _) => {
+            options.quiet = true;
+            Ok(after)
+        }
+        ("--hex", _) => {
+            options.hex = true;
+            Ok(after)
+        }
+        (_, [value, left @ ..]) => {
+            let value = value.as_str();
+            *options = options
+                .with(option, value)
+                .map_err(|why| Fault::Word(why, value))?;
+            Ok(left)
+        }
+        (_, []) => Err(Fault::Word(Why::NoValue, option)),
+    }
+}
+
+// The options of the task among the words, and the words that are neither options nor their values.
+pub fn read<'a, T: Task>(
     heap: Global,
-    task: Task,
     words: &'a [String],
-) -> Result<Vec<&'a str>, Fault<'a>> {
+) -> Result<(Options<'a>, Vec<&'a str>), Fault<'a>> {
+    let mut options = Options::none();
     let mut places = Vec::new(heap);
-    let mut waits = false;
-    for word in words {
+    let mut rest = words;
+    while let [word, after @ ..] = rest {
         let word = word.as_str();
-        if waits {
-            waits = false;
-        } else if word.starts_with("--") {
-            waits = !is_flag(task, word);
+        if word.starts_with("--") {
+            rest = take::<T>(&mut options, word, after)?;
         } else {
             places.push(word)?;
+            rest = after;
         }
     }
-    Ok(places)
-}
-
-// The last of the words is an option without its value.
-fn unfinished<'a>(words: &'a [String]) -> Fault<'a> {
-    match words {
-        [.., name] => Fault::Word(Why::NoValue, name.as_str()),
-        [] => Fault::Usage,
-    }
-}
-
-// The options among the words.
-pub fn read<'a>(task: Task, words: &'a [String]) -> Result<Options<'a>, Fault<'a>> {
-    let mut options = Options {
-        charge: u16::MAX,
-        mission: 0,
-        log_size: None,
-        quiet: false,
-        hex: false,
-        word: "",
-        waiting: None,
-    };
-    for word in words {
-        options = options.next(task, word.as_str())?;
-    }
-    if options.waiting.is_some() {
-        return Err(unfinished(words));
-    }
-    Ok(options)
+    Ok((options, places))
 }

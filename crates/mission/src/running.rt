@@ -1,13 +1,14 @@
 ghost use Rattle.std.specs.Prelude.{◌≡◌, ◌+◌, ◌*◌, ◌/◌, ◌^◌, ◌<◌};
 
 use crate::fault::{Fault, Why};
-use crate::input;
+use crate::input::Source;
 use crate::options::Options;
 use crate::telling::Teller;
 use executive::held::Executive;
 use guard::Guard;
-use guard::refusal::Refusal;
 use records::reader::Reader;
+use records::refusal::ReadRefusal;
+use runs::refusal::RunRefusal;
 use runs::run;
 use runs::run::Ended;
 use std::fs;
@@ -20,14 +21,14 @@ fn room(tape: usize) -> usize
     (tape / 3 + 1).saturating_mul(23)
 }
 
-// The number under which the first record that cannot be read is refused; 0 where all can be read.
-fn misread(tape: &[u8]) -> u8 {
+// Why the first record that cannot be read is refused, if there is one.
+fn misread(tape: &[u8]) -> Option<ReadRefusal> {
     let mut reader = Reader::new(tape);
     loop {
         match reader.next() {
             Ok(Some(_)) => {}
-            Ok(None) => return 0,
-            Err(refusal) => return refusal.number(),
+            Ok(None) => return None,
+            Err(refusal) => return Some(refusal),
         }
     }
 }
@@ -41,34 +42,32 @@ fn run_telling<'a, G: Guard>(
 ) -> Result<Ended, Fault<'a>> {
     let mut teller = Teller::new(rt.alloc(), rt.stdout())?;
     let ended = run::run_watched(e, tape, log, &mut teller);
-    // a run does not tell of a record that cannot be read, and where the log has no room for its refusal, not even its number
-    match ended.number {
-        12..=14 => teller.misread(ended.number)?,
-        16 if teller.due() == ended.written => teller.misread(misread(tape))?,
-        _ => {}
+    // a run does not tell of a record that cannot be read, and where the log has no room for its refusal, not even why
+    let unread = match ended.refusal {
+        Some(RunRefusal::Read(x)) => Some(x),
+        Some(RunRefusal::Write(_)) if teller.due() == ended.written => misread(tape),
+        _ => None,
+    };
+    if let Some(refusal) = unread {
+        teller.misread(refusal)?;
     }
     teller.show_log(&log[..ended.written.min(log.len())])?;
-    match teller.finish() {
-        Ok(()) => Ok(ended),
-        Err(_) => Err(Fault::Output),
-    }
+    teller.finish().map_err(|_| Fault::Output)?;
+    Ok(ended)
 }
 
 fn store<'a>(rt: &HostRuntime, file: &'a str, log: &[u8]) -> Result<(), Fault<'a>> {
-    match fs::write(rt, file, log) {
-        Ok(()) => Ok(()),
-        Err(_) => Err(Fault::Word(Why::NotWritten, file)),
-    }
+    fs::write(rt, file, log).map_err(|_| Fault::Word(Why::NotWritten, file))
 }
 
 // Runs the tape through a new executive over the guard.
 pub fn run<'a, G: Guard + Drop>(
     rt: &HostRuntime,
     g: G,
-    word: &'a str,
+    tape: Source<'a>,
     given: Options<'a>,
 ) -> Result<(), Fault<'a>> {
-    let tape = input::bytes(rt, given.hex, word)?;
+    let tape = tape.bytes(rt)?;
     let size = given.log_size.unwrap_or(room(tape.len()));
     let mut log = vec![in rt.alloc(); 0u8; size]?;
     let mut e = Executive::new(g, given.mission);
@@ -77,9 +76,9 @@ pub fn run<'a, G: Guard + Drop>(
     } else {
         run_telling(rt, &mut e, tape.as_slice(), log.as_mut_slice())?
     };
-    let (number, written) = (ended.number, ended.written);
-    if !given.word.is_empty() {
-        store(rt, given.word, &log.as_slice()[..written.min(log.len())])?;
+    let (number, written) = (ended.number(), ended.written);
+    if let Some(file) = given.log {
+        store(rt, file, &log.as_slice()[..written.min(log.len())])?;
     }
     println!(rt; "ended {number} written {written}")?;
     Ok(())

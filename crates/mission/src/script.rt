@@ -2,36 +2,30 @@ use crate::fault::Fault;
 use executive::replay::replay;
 use guard::Guard;
 use guard::reading::Reading;
-use guard::refusal::Refusal;
+use guard::refusal::{Refusal, StateRefusal};
 use history::calls::{Answer, Call, Ticket};
+use std::alloc::{AllocError, Global};
 use std::{fmt, io};
 
 // What a line of a script asks: a call, or one with numbers that no state has, which does not reach the executive.
-#[derive(Clone, Copy)]
-enum Entry<S> {
-    Asked(Call<S>),
-    NoState,
-}
+type Entry<S> = Result<Call<S>, StateRefusal>;
 
 // A line that is no call.
-#[derive(Clone, Copy)]
+#[derive(Clone, Copy, Debug, PartialEq, Eq)]
 struct NotCall;
 
-// The numbers that follow a call's name, as many as the count says and at most four.
-fn numbers(words: &str, count: usize) -> Result<[i64; 4], NotCall> {
-    let mut n = [0; 4];
-    let mut next = 0;
-    for word in words.split_whitespace() {
-        if next >= count || next >= 4 {
-            return Err(NotCall);
-        }
-        match word.parse::<i64>() {
-            Ok(x) => n[next] = x,
-            Err(_) => return Err(NotCall),
-        }
-        next += 1;
+// The numbers that follow a call's name, just as many as are asked for.
+fn numbers<const N: usize>(words: &str) -> Result<[i64; N], NotCall> {
+    let mut words = words.split_whitespace();
+    let mut n = [0; N];
+    for x in &mut n {
+        let word = words.next().ok_or(NotCall)?;
+        *x = word.parse::<i64>().map_err(|_| NotCall)?;
     }
-    if next < count { Err(NotCall) } else { Ok(n) }
+    match words.next() {
+        Some(_) => Err(NotCall),
+        None => Ok(n),
+    }
 }
 
 // A number of a narrower type.
@@ -39,51 +33,42 @@ fn narrow<T: TryFrom<i64>>(x: i64) -> Result<T, NotCall>
 where
     T::Error: Drop,
 {
-    match T::try_from(x) {
-        Ok(n) => Ok(n),
-        Err(_) => Err(NotCall),
-    }
+    T::try_from(x).map_err(|_| NotCall)
 }
 
-fn reading<G: Guard>(g: &G, words: &str) -> Result<Option<Reading<G::State>>, NotCall> {
-    let n = numbers(words, 4)?;
-    let charge = narrow::<u16>(n[3])?;
-    match g.state((
-        narrow::<i32>(n[0])?,
-        narrow::<i32>(n[1])?,
-        narrow::<i32>(n[2])?,
-    )) {
-        Ok(state) => Ok(Some(Reading { state, charge })),
-        Err(_) => Ok(None),
-    }
+fn reading<G: Guard>(
+    g: &G,
+    words: &str,
+) -> Result<Result<Reading<G::State>, StateRefusal>, NotCall> {
+    let [x, y, z, charge] = numbers::<4>(words)?;
+    let charge = narrow::<u16>(charge)?;
+    let n = (narrow::<i32>(x)?, narrow::<i32>(y)?, narrow::<i32>(z)?);
+    Ok(g.state(n).map(|state| Reading { state, charge }))
 }
 
 fn ticket(words: &str) -> Result<Ticket, NotCall> {
-    let n = numbers(words, 4)?;
+    let [mission, tick, action, reason] = numbers::<4>(words)?;
     Ok(Ticket {
-        mission: narrow::<u32>(n[0])?,
-        tick: narrow::<u32>(n[1])?,
-        action: narrow::<u8>(n[2])?,
-        reason: narrow::<u8>(n[3])?,
+        mission: narrow::<u32>(mission)?,
+        tick: narrow::<u32>(tick)?,
+        action: narrow::<u8>(action)?,
+        reason: narrow::<u8>(reason)?,
     })
 }
 
 // A call by its name and what follows it.
 fn asked<G: Guard>(g: &G, name: &str, words: &str) -> Result<Entry<G::State>, NotCall> {
     match name {
-        "begin" => match reading(g, words)? {
-            Some(r) => Ok(Entry::Asked(Call::Begin(r))),
-            None => Ok(Entry::NoState),
-        },
-        "observe" => match reading(g, words)? {
-            Some(r) => Ok(Entry::Asked(Call::Observe(r))),
-            None => Ok(Entry::NoState),
-        },
-        "decide" => Ok(Entry::Asked(Call::Decide(narrow::<u8>(numbers(words, 1)?[0])?))),
-        "spend" => Ok(Entry::Asked(Call::Spend(ticket(words)?))),
+        "begin" => Ok(reading(g, words)?.map(Call::Begin)),
+        "observe" => Ok(reading(g, words)?.map(Call::Observe)),
+        "decide" => {
+            let [proposal] = numbers::<1>(words)?;
+            Ok(Ok(Call::Decide(narrow::<u8>(proposal)?)))
+        }
+        "spend" => Ok(Ok(Call::Spend(ticket(words)?))),
         "close" => {
-            numbers(words, 0)?;
-            Ok(Entry::Asked(Call::Close))
+            let [] = numbers::<0>(words)?;
+            Ok(Ok(Call::Close))
         }
         _ => Err(NotCall),
     }
@@ -115,16 +100,28 @@ impl fmt::Display for Told {
     }
 }
 
-// Prints an answer for each line of the script: that of the executive, or 5 where no state has the line's numbers.
-fn tell(rt: &HostRuntime, reaches: &[bool], answers: &[Answer]) -> io::Result<()> {
-    let mut next = 0;
-    for reached in reaches {
-        if !*reached {
-            println!(rt; "no 5")?;
-        } else if next < answers.len() {
-            let told = Told(answers[next]);
-            next += 1;
-            println!(rt; "{told}")?;
+// The calls among the entries.
+fn calls<S: Copy>(heap: Global, entries: &[Entry<S>]) -> Result<Vec<Call<S>>, AllocError> {
+    let mut calls = Vec::new(heap);
+    for entry in entries {
+        if let Ok(call) = entry {
+            calls.push(*call)?;
+        }
+    }
+    Ok(calls)
+}
+
+// Prints an answer for each line of the script: that of the executive, or the refusal where no state has the line's numbers.
+fn tell<S: Copy>(rt: &HostRuntime, entries: &[Entry<S>], answers: &[Answer]) -> io::Result<()> {
+    let mut answers = answers.iter();
+    for entry in entries {
+        match entry {
+            Err(refusal) => println!(rt; "no {}", refusal.number())?,
+            Ok(_) => {
+                if let Some(answer) = answers.next() {
+                    println!(rt; "{}", Told(*answer))?;
+                }
+            }
         }
     }
     Ok(())
@@ -149,23 +146,16 @@ pub fn run<'a, G: Guard + Drop>(
     mission: u32,
     text: &str,
 ) -> Result<(), Fault<'a>> {
-    let mut calls = Vec::new(rt.alloc());
-    let mut reaches = Vec::new(rt.alloc());
+    let mut entries = Vec::new(rt.alloc());
     for (i, line) in text.lines().enumerate() {
         let (name, words) = cut(line);
         if name.is_empty() {
             continue;
         }
-        match asked(&g, name, words) {
-            Ok(Entry::Asked(call)) => {
-                calls.push(call)?;
-                reaches.push(true)?;
-            }
-            Ok(Entry::NoState) => reaches.push(false)?,
-            Err(_) => return Err(Fault::Line(i)),
-        }
+        entries.push(asked(&g, name, words).map_err(|_| Fault::Line(i))?)?;
     }
+    let calls = calls(rt.alloc(), entries.as_slice())?;
     let answers = replay(rt.alloc(), g, mission, calls.as_slice())?;
-    tell(rt, reaches.as_slice(), answers.as_slice())?;
+    tell(rt, entries.as_slice(), answers.as_slice())?;
     Ok(())
 }

@@ -1,5 +1,5 @@
 use crate::fault::Fault;
-use crate::input;
+use crate::input::Source;
 use guard::refusal::Refusal;
 use records::reader::Reader;
 use records::refusal::ReadRefusal;
@@ -39,8 +39,7 @@ fn print(rt: &HostRuntime, tape: &[u8]) -> io::Result<()> {
 
 // `mission show [--hex] FILE`.
 pub fn run<'a>(rt: &HostRuntime, words: &'a [String]) -> Result<(), Fault<'a>> {
-    let (hex, word) = input::named(words)?;
-    let tape = input::bytes(rt, hex, word)?;
+    let tape = Source::named(words)?.bytes(rt)?;
     print(rt, tape.as_slice())?;
     Ok(())
 }

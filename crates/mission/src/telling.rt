@@ -1,10 +1,11 @@
-use crate::demo::who;
+use executive::control::Control;
 use executive::held::Executive;
-use executive::view::Control;
 use guard::Guard;
+use guard::refusal::Refusal;
 use history::phase::Phase;
 use records::reader::Reader;
 use records::record::Record;
+use records::refusal::ReadRefusal;
 use runs::witness::Witness;
 use std::alloc::Global;
 use std::io::{BufWriter, Stdout, Write};
@@ -13,7 +14,7 @@ use text::hex::Hex;
 use text::line::Line;
 use text::words;
 
-// What a record of a tape came to.
+// What a record of a tape came to; a refusal by its number, as the log has it.
 #[derive(Clone, Copy)]
 enum Outcome {
     Accepted,
@@ -25,15 +26,11 @@ enum Outcome {
 impl fmt::Display for Outcome {
     fn fmt<W: fmt::Write>(&self, f: &mut fmt::Formatter<W>) -> fmt::Result {
         match *self {
-            Outcome::Accepted => write!(f, "accepted"),
+            Outcome::Accepted => f.write_str("accepted"),
             Outcome::Granted(action, control) => {
-                let who = who(control);
-                write!(f, "granted {action}, {who} in control")
+                write!(f, "granted {action}, {control} in control")
             }
-            Outcome::Closed(closing) => {
-                let line = Line(closing);
-                write!(f, "{line}")
-            }
+            Outcome::Closed(closing) => { write!(f, "{}", Line(closing)) }
             Outcome::Refused(number) => {
                 let why = words::refusal(number);
                 write!(f, "refused {number} ({why})")
@@ -64,15 +61,16 @@ pub struct Teller {
     next: u32,
     // how many bytes the log entries have of which it was told
     due: usize,
-    failed: bool,
+    // how the lines told of went, up to the first that could not be printed
+    told: io::Result<()>,
 }
 
 impl<G: Guard> Witness<G> for Teller {
     fn saw(&mut self, place: u32, record: Record, entry: Option<Record>, e: &Executive<G>) {
         let line = Line(record);
         let outcome = Outcome::of(record, entry, e);
-        if !self.failed && writeln!(self.out, "{place}: {line} -> {outcome}").is_err() {
-            self.failed = true;
+        if self.told.is_ok() {
+            self.told = writeln!(self.out, "{place}: {line} -> {outcome}");
         }
         if let Some(r) = entry {
             self.due = self.due.saturating_add(3 + r.kind().body_len());
@@ -87,7 +85,7 @@ impl Teller {
             out: BufWriter::new(alloc, out)?,
             next: 0,
             due: 0,
-            failed: false,
+            told: Ok(()),
         })
     }
 
@@ -97,8 +95,8 @@ impl Teller {
     }
 
     // A line for the record after the last one, which cannot be read.
-    pub fn misread(&mut self, number: u8) -> io::Result<()> {
-        let (next, outcome) = (self.next, Outcome::Refused(number));
+    pub fn misread(&mut self, refusal: ReadRefusal) -> io::Result<()> {
+        let (next, outcome) = (self.next, Outcome::Refused(refusal.number()));
         writeln!(self.out, "{next}: no record -> {outcome}")
     }
 
@@ -118,15 +116,9 @@ impl Teller {
     }
 
     // Writes out what has been held back. An error of a line that was told of is only known here.
-    pub fn finish(&mut self) -> Result<(), NotTold> {
-        if self.failed || self.out.flush().is_err() {
-            Err(NotTold)
-        } else {
-            Ok(())
-        }
+    pub fn finish(self) -> io::Result<()> {
+        let Teller { mut out, told, .. } = self;
+        told?;
+        out.flush()
     }
 }
-
-// Not all lines could be printed.
-#[derive(Clone, Copy)]
-pub struct NotTold;

@@ -3,54 +3,35 @@ ghost use Rattle.mission.specs.declared.fault.Why.TheVariants.{NotNumbers, NotCh
 ghost use Rattle.std.specs.List.{AllByRecursion};
 
 use crate::fault::{Fault, Why};
-use crate::machine::Kind;
-use guard::Guard;
-use guard::refusal::Refusal;
 use std::alloc::Global;
 
 pub fn number(word: &str) -> Result<i32, Why>
     ensures { IfErr result (λ e. e ≡ NotNumbers) }
 {
-    match word.parse::<i32>() {
-        Ok(n) => Ok(n),
-        Err(_) => Err(Why::NotNumbers),
-    }
+    word.parse::<i32>().map_err(|_| Why::NotNumbers)
 }
 
 pub fn charge(word: &str) -> Result<u16, Why>
     ensures { IfErr result (λ e. e ≡ NotCharge) }
 {
-    match word.parse::<u16>() {
-        Ok(n) => Ok(n),
-        Err(_) => Err(Why::NotCharge),
-    }
+    word.parse::<u16>().map_err(|_| Why::NotCharge)
 }
 
-// The numbers of a word such as `900,20`, as many as the count says and at most six; those that are left are 0.
-pub fn numbers(count: usize, form: Why, word: &str) -> Result<[i32; 6], Why>
+// The numbers of a word such as `900,20`, just as many as are asked for.
+pub fn numbers<const N: usize>(form: Why, word: &str) -> Result<[i32; N], Why>
     ensures { IfErr result (λ e. (e ≡ form) ⊎ (e ≡ NotNumbers)) }
 {
-    let mut n = [0; 6];
-    let mut next = 0;
-    for part in word.split(',') {
-        if next >= count || next >= 6 {
-            return Err(form);
-        }
-        n[next] = number(part)?;
-        next += 1;
+    let mut parts = word.split(',');
+    let mut n = [0; N];
+    for x in &mut n {
+        *x = match parts.next() {
+            Some(part) => number(part)?,
+            None => return Err(form),
+        };
     }
-    if next < count {
-        return Err(form);
-    }
-    Ok(n)
-}
-
-// The machine's state of this word.
-pub fn state<G: Guard>(g: &G, kind: Kind, word: &str) -> Result<G::State, Why> {
-    let n = numbers(kind.width(), kind.form(), word)?;
-    match g.state((n[0], n[1], n[2])) {
-        Ok(s) => Ok(s),
-        Err(refusal) => Err(Why::NoState(refusal.number())),
+    match parts.next() {
+        Some(_) => Err(form),
+        None => Ok(n),
     }
 }
 
@@ -73,10 +54,7 @@ pub fn gusts<'a>(heap: Global, count: u8, word: &'a str) -> Result<Vec<u8>, Faul
         return Ok(gusts);
     }
     for part in word.split(',') {
-        match gust(count, part) {
-            Ok(w) => gusts.push(w)?,
-            Err(why) => return Err(Fault::Word(why, word)),
-        }
+        gusts.push(gust(count, part).map_err(|why| Fault::Word(why, word))?)?;
     }
     Ok(gusts)
 }

@@ -1,0 +1,132 @@
+use crate::fault::{Fault, Why};
+use crate::input::Source;
+use crate::machine::Kind;
+use crate::options::Options;
+use crate::{brake, judge, running, script, words};
+use guard::Guard;
+use guard::reading::Reading;
+use std::{fs, io};
+
+// What a task is about, beside its guard: the machine's kind, the options, and the last word of the command.
+#[derive(Clone, Copy)]
+pub struct Job<'a> {
+    pub kind: Kind,
+    pub given: Options<'a>,
+    pub word: &'a str,
+}
+
+impl<'a> Job<'a> {
+    // The reading at the state that the word names, with the charge given.
+    fn reading<G: Guard>(self, g: &G) -> Result<Reading<G::State>, Fault<'a>> {
+        match self.kind.state(g, self.word) {
+            Ok(state) => Ok(Reading {
+                state,
+                charge: self.given.charge,
+            }),
+            Err(why) => Err(Fault::Word(why, self.word)),
+        }
+    }
+}
+
+// What a command asks of a guard, whatever the machine and its layers.
+pub trait Task {
+    // Whether the task has the option of this name.
+    fn takes(option: &str) -> bool;
+
+    fn carry_out<'a, G: Guard + Drop>(
+        rt: &HostRuntime,
+        g: G,
+        job: Job<'a>,
+    ) -> Result<(), Fault<'a>>;
+}
+
+// Drives the machine by its fallback from a state.
+pub struct Brake;
+
+// Judges the actions at a state.
+pub struct Judge;
+
+// Makes the calls of a script.
+pub struct Calls;
+
+// Runs a tape.
+pub struct Run;
+
+impl Task for Brake {
+    fn takes(option: &str) -> bool {
+        matches!(option, "--charge" | "--gusts")
+    }
+
+    fn carry_out<'a, G: Guard + Drop>(
+        rt: &HostRuntime,
+        g: G,
+        job: Job<'a>,
+    ) -> Result<(), Fault<'a>> {
+        let gusts = words::gusts(rt.alloc(), g.gust_count(), job.given.gusts.unwrap_or(""))?;
+        let r = job.reading(&g)?;
+        brake::brake(rt, job.kind, &g, r, gusts.as_slice())?;
+        Ok(())
+    }
+}
+
+impl Task for Judge {
+    fn takes(option: &str) -> bool {
+        option == "--charge"
+    }
+
+    fn carry_out<'a, G: Guard + Drop>(
+        rt: &HostRuntime,
+        g: G,
+        job: Job<'a>,
+    ) -> Result<(), Fault<'a>> {
+        let r = job.reading(&g)?;
+        judge::judge(rt, job.kind, &g, r)?;
+        Ok(())
+    }
+}
+
+// The text of a file, or of standard input where the word is `-`.
+fn text(rt: &HostRuntime, word: &str) -> io::Result<String> {
+    if word == "-" {
+        io::read_to_string(rt.alloc(), rt.stdin())
+    } else {
+        fs::read_to_string(rt, word)
+    }
+}
+
+impl Task for Calls {
+    fn takes(option: &str) -> bool {
+        option == "--mission"
+    }
+
+    fn carry_out<'a, G: Guard + Drop>(
+        rt: &HostRuntime,
+        g: G,
+        job: Job<'a>,
+    ) -> Result<(), Fault<'a>> {
+        let text = text(rt, job.word).map_err(|_| Fault::Word(Why::NoFile, job.word))?;
+        script::run(rt, g, job.given.mission, text.as_str())
+    }
+}
+
+impl Task for Run {
+    fn takes(option: &str) -> bool {
+        matches!(
+            option,
+            "--mission" | "--log-size" | "--log" | "--quiet" | "--hex"
+        )
+    }
+
+    fn carry_out<'a, G: Guard + Drop>(
+        rt: &HostRuntime,
+        g: G,
+        job: Job<'a>,
+    ) -> Result<(), Fault<'a>> {
+        let tape = if job.given.hex {
+            Source::Hex(job.word)
+        } else {
+            Source::Binary(job.word)
+        };
+        running::run(rt, g, tape, job.given)
+    }
+}
