@@ -1,11 +1,10 @@
 -- The worked edges, by computation.
 use Rattle.std.proofs.Common.{refl}
 use Rattle.guard.specs.Regions.{between}
-use Rattle.layers.specs.Fence.{apart}
 use Rattle.worked.specs.Edges.{Edges}
 
 pub edges : Edges
-unfolding between apart
+unfolding between
 edges = record {
   distances = (refl, refl, refl);
   forward = (refl, refl);

@@ -1,24 +1,10 @@
+use crate::regions::region;
 use cart::Cart;
-use cart::state::CartState;
 use guard::Guard;
 use guard::reading::Reading;
 use guard::refusal::Refusal;
 use std::process::Abort;
 use std::test::Fail;
-
-fn cart(length: i32) -> Result<Cart, Fail> {
-    match Cart::new(length) {
-        Ok(cart) => Ok(cart),
-        Err(_) => Err(Fail::new("no such cart")),
-    }
-}
-
-fn state(cart: &Cart, x: i32, v: i32) -> Result<CartState, Fail> {
-    match cart.state((x, v, 0)) {
-        Ok(s) => Ok(s),
-        Err(_) => Err(Fail::new("no such state")),
-    }
-}
 
 // A speed, an action, and the speeds that follow under the gusts 0, 1 and 2.
 const SPEEDS: [(i32, u8, [i32; 3]); 40] = [
@@ -73,14 +59,14 @@ fn moves(
     w: u8,
     after: (i32, i32),
 ) -> Result<(), Fail> {
-    let t = cart.after(state(cart, x, v)?, a, w);
+    let t = cart.after(cart.state((x, v, 0))?, a, w);
     assert_eq!(rt; cart.numbers(t), (after.0, after.1, 0));
     Ok(())
 }
 
 #[test]
 fn speeds_and_places(rt: HostRuntime) -> Result<(), Fail> {
-    let cart = cart(1000)?;
+    let cart = Cart::new(1000)?;
     for (v, a, speeds) in SPEEDS {
         for (w, next) in (0u8..3).zip(speeds) {
             assert!(rt; -40 <= next && next <= 40);
@@ -110,7 +96,7 @@ fn speeds_and_places(rt: HostRuntime) -> Result<(), Fail> {
 }
 
 fn recovers(cart: &Cart, x: i32, v: i32) -> Result<bool, Fail> {
-    let state = state(cart, x, v)?;
+    let state = cart.state((x, v, 0))?;
     Ok(cart.recoverable(Reading {
         state,
         charge: 65535,
@@ -119,7 +105,7 @@ fn recovers(cart: &Cart, x: i32, v: i32) -> Result<bool, Fail> {
 
 #[test]
 fn recoverable_edges(rt: HostRuntime) -> Result<(), Fail> {
-    let cart = cart(1000)?;
+    let cart = Cart::new(1000)?;
     assert!(rt; recovers(&cart, 910, 20)?);
     assert!(rt; !recovers(&cart, 911, 20)?);
     assert!(rt; recovers(&cart, 2, -4)?);
@@ -152,20 +138,19 @@ const COVERS: [(i32, i32, i32); 17] = [
 
 #[test]
 fn covers(rt: HostRuntime) -> Result<(), Fail> {
-    let cart = cart(1000)?;
+    let cart = Cart::new(1000)?;
     for (v, low, high) in COVERS {
-        let cover = cart.cover(state(&cart, 500, v)?);
-        assert_eq!(rt; (cover.low.x, cover.low.y, cover.low.z), (low, 0, 0));
-        assert_eq!(rt; (cover.high.x, cover.high.y, cover.high.z), (high, 0, 0));
+        let cover = cart.cover(cart.state((500, v, 0))?);
+        assert_eq!(rt; cover, region((low, 0, 0), (high, 0, 0)));
     }
     Ok(())
 }
 
 #[test]
 fn draws_and_ticks(rt: HostRuntime) -> Result<(), Fail> {
-    let cart = cart(1000)?;
-    let rolling = state(&cart, 500, -5)?;
-    let resting = state(&cart, 500, 0)?;
+    let cart = Cart::new(1000)?;
+    let rolling = cart.state((500, -5, 0))?;
+    let resting = cart.state((500, 0, 0))?;
     for (a, most) in [
         (0, 4),
         (1, 3),
@@ -189,44 +174,29 @@ fn draws_and_ticks(rt: HostRuntime) -> Result<(), Fail> {
 
 #[test]
 fn out_of_range_does_nothing(rt: HostRuntime) -> Result<(), Fail> {
-    let cart = cart(1000)?;
+    let cart = Cart::new(1000)?;
     assert_eq!(rt; (cart.action_count(), cart.gust_count()), (8, 3));
     moves(&rt, &cart, 500, 5, 8, 0, (500, 5))?;
     moves(&rt, &cart, 500, 5, 255, 1, (500, 5))?;
     moves(&rt, &cart, 500, 5, 7, 3, (500, 5))
 }
 
-fn making_refused(rt: &impl Abort, length: i32) -> Result<(), Fail> {
-    match Cart::new(length) {
-        Ok(_) => Err(Fail::new("made")),
-        Err(e) => {
-            assert_eq!(rt; e.number(), 3);
-            Ok(())
-        },
-    }
-}
-
-fn state_refused(rt: &impl Abort, n: (i32, i32, i32)) -> Result<(), Fail> {
-    match cart(1000)?.state(n) {
-        Ok(_) => Err(Fail::new("made")),
-        Err(e) => {
-            assert_eq!(rt; e.number(), 5);
-            Ok(())
-        },
-    }
-}
-
 #[test]
 fn refusals(rt: HostRuntime) -> Result<(), Fail> {
-    making_refused(&rt, 0)?;
-    making_refused(&rt, -1)?;
-    making_refused(&rt, 100_001)?;
-    making_refused(&rt, i32::MIN)?;
-    cart(1)?;
-    cart(100_000)?;
-    state_refused(&rt, (1_000_001, 0, 0))?;
-    state_refused(&rt, (i32::MIN, 0, 0))?;
-    state_refused(&rt, (0, 41, 0))?;
-    state_refused(&rt, (0, -41, 0))?;
-    state_refused(&rt, (0, 0, 1))
+    for length in [0, -1, 100_001, i32::MIN] {
+        assert!(rt; matches!(Cart::new(length), Err(e) if e.number() == 3));
+    }
+    Cart::new(1)?;
+    Cart::new(100_000)?;
+    let cart = Cart::new(1000)?;
+    for n in [
+        (1_000_001, 0, 0),
+        (i32::MIN, 0, 0),
+        (0, 41, 0),
+        (0, -41, 0),
+        (0, 0, 1),
+    ] {
+        assert!(rt; matches!(cart.state(n), Err(e) if e.number() == 5));
+    }
+    Ok(())
 }

@@ -1,24 +1,10 @@
+use crate::regions::region;
 use drone::Drone;
-use drone::state::DroneState;
 use guard::Guard;
 use guard::reading::Reading;
 use guard::refusal::Refusal;
 use std::process::Abort;
 use std::test::Fail;
-
-fn drone(x: i32, y: i32, z: i32) -> Result<Drone, Fail> {
-    match Drone::new(x, y, z) {
-        Ok(drone) => Ok(drone),
-        Err(_) => Err(Fail::new("no such drone")),
-    }
-}
-
-fn cell(drone: &Drone, n: (i32, i32, i32)) -> Result<DroneState, Fail> {
-    match drone.state(n) {
-        Ok(s) => Ok(s),
-        Err(_) => Err(Fail::new("no such cell")),
-    }
-}
 
 // An action, a gust, and the cell that follows (5, 10, 5).
 const FLYING: [(u8, u8, [i32; 3]); 14] = [
@@ -77,8 +63,8 @@ fn follow(
     from: (i32, i32, i32),
     moves: &[(u8, u8, [i32; 3])],
 ) -> Result<(), Fail> {
-    let drone = drone(20, 20, 10)?;
-    let s = cell(&drone, from)?;
+    let drone = Drone::new(20, 20, 10)?;
+    let s = drone.state(from)?;
     for (a, w, to) in moves {
         let (x, y, z) = drone.numbers(drone.after(s, *a, *w));
         assert_eq!(rt; [x, y, z], *to);
@@ -100,9 +86,9 @@ fn moves(rt: HostRuntime) -> Result<(), Fail> {
 
 #[test]
 fn draws_and_ticks(rt: HostRuntime) -> Result<(), Fail> {
-    let drone = drone(20, 20, 10)?;
-    let flying = cell(&drone, (5, 10, 5))?;
-    let landed = cell(&drone, (5, 10, 0))?;
+    let drone = Drone::new(20, 20, 10)?;
+    let flying = drone.state((5, 10, 5))?;
+    let landed = drone.state((5, 10, 0))?;
     for (a, most) in [
         (0, 2),
         (1, 3),
@@ -124,7 +110,7 @@ fn draws_and_ticks(rt: HostRuntime) -> Result<(), Fail> {
 }
 
 fn recovers(drone: &Drone, n: (i32, i32, i32)) -> Result<bool, Fail> {
-    let state = cell(drone, n)?;
+    let state = drone.state(n)?;
     Ok(drone.recoverable(Reading {
         state,
         charge: 65535,
@@ -133,10 +119,9 @@ fn recovers(drone: &Drone, n: (i32, i32, i32)) -> Result<bool, Fail> {
 
 #[test]
 fn covers(rt: HostRuntime) -> Result<(), Fail> {
-    let drone = drone(20, 20, 10)?;
-    let cover = drone.cover(cell(&drone, (5, 10, 3))?);
-    assert_eq!(rt; (cover.low.x, cover.low.y, cover.low.z), (2, 7, 0));
-    assert_eq!(rt; (cover.high.x, cover.high.y, cover.high.z), (8, 13, 3));
+    let drone = Drone::new(20, 20, 10)?;
+    let cover = drone.cover(drone.state((5, 10, 3))?);
+    assert_eq!(rt; cover, region((2, 7, 0), (8, 13, 3)));
     assert!(rt; recovers(&drone, (5, 10, 5))? && !recovers(&drone, (4, 10, 5))?);
     assert!(rt; recovers(&drone, (15, 15, 5))? && !recovers(&drone, (15, 16, 5))?);
     assert!(rt; recovers(&drone, (10, 10, 10))? && !recovers(&drone, (10, 10, 11))?);
@@ -144,34 +129,15 @@ fn covers(rt: HostRuntime) -> Result<(), Fail> {
     Ok(())
 }
 
-fn making_refused(rt: &impl Abort, x: i32, y: i32, z: i32) -> Result<(), Fail> {
-    match Drone::new(x, y, z) {
-        Ok(_) => Err(Fail::new("made")),
-        Err(e) => {
-            assert_eq!(rt; e.number(), 4);
-            Ok(())
-        },
-    }
-}
-
-fn cell_refused(rt: &impl Abort, n: (i32, i32, i32)) -> Result<(), Fail> {
-    match drone(1, 1, 1)?.state(n) {
-        Ok(_) => Err(Fail::new("made")),
-        Err(e) => {
-            assert_eq!(rt; e.number(), 5);
-            Ok(())
-        },
-    }
-}
-
 #[test]
 fn refusals(rt: HostRuntime) -> Result<(), Fail> {
-    making_refused(&rt, 0, 1, 1)?;
-    making_refused(&rt, 1, 64, 1)?;
-    making_refused(&rt, 1, 1, -1)?;
-    drone(63, 63, 63)?;
-    cell_refused(&rt, (1001, 0, 0))?;
-    cell_refused(&rt, (0, -1001, 0))?;
-    cell_refused(&rt, (0, 0, -1))?;
-    cell_refused(&rt, (0, 0, 1001))
+    for (x, y, z) in [(0, 1, 1), (1, 64, 1), (1, 1, -1)] {
+        assert!(rt; matches!(Drone::new(x, y, z), Err(e) if e.number() == 4));
+    }
+    Drone::new(63, 63, 63)?;
+    let drone = Drone::new(1, 1, 1)?;
+    for n in [(1001, 0, 0), (0, -1001, 0), (0, 0, -1), (0, 0, 1001)] {
+        assert!(rt; matches!(drone.state(n), Err(e) if e.number() == 5));
+    }
+    Ok(())
 }

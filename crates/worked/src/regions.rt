@@ -1,6 +1,7 @@
 use guard::geometry::{Point, Region};
 
-fn region(low: (i32, i32, i32), high: (i32, i32, i32)) -> Region {
+// The region with these corners.
+pub(crate) fn region(low: (i32, i32, i32), high: (i32, i32, i32)) -> Region {
     Region {
         low: Point {
             x: low.0,

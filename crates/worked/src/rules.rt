@@ -4,23 +4,14 @@ use guard::reading::Reading;
 use guard::{Guard, rule};
 use std::test::Fail;
 
-fn cart(length: i32) -> Result<Cart, Fail> {
-    match Cart::new(length) {
-        Ok(cart) => Ok(cart),
-        Err(_) => Err(Fail::new("no such cart")),
-    }
-}
-
 fn reading(cart: &Cart, x: i32, v: i32, charge: u16) -> Result<Reading<CartState>, Fail> {
-    match cart.state((x, v, 0)) {
-        Ok(state) => Ok(Reading { state, charge }),
-        Err(_) => Err(Fail::new("no such state")),
-    }
+    let state = cart.state((x, v, 0))?;
+    Ok(Reading { state, charge })
 }
 
 #[test]
 fn admissible_actions(rt: HostRuntime) -> Result<(), Fail> {
-    let cart = cart(1000)?;
+    let cart = Cart::new(1000)?;
     let r = reading(&cart, 900, 20, 65535)?;
     for (a, gust) in [
         (0, None),
@@ -42,7 +33,7 @@ fn admissible_actions(rt: HostRuntime) -> Result<(), Fail> {
 
 #[test]
 fn calm_places(rt: HostRuntime) -> Result<(), Fail> {
-    let cart = cart(1000)?;
+    let cart = Cart::new(1000)?;
     for (x, v, calm) in [
         (994, 0, true),
         (995, 0, false),
@@ -57,7 +48,7 @@ fn calm_places(rt: HostRuntime) -> Result<(), Fail> {
 
 #[test]
 fn what_can_follow(rt: HostRuntime) -> Result<(), Fail> {
-    let cart = cart(1000)?;
+    let cart = Cart::new(1000)?;
     // action 6 accelerates by 3 and draws at most 4
     let r = reading(&cart, 500, 0, 200)?;
     for (x, v, charge, follows) in [
