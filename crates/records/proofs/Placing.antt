@@ -1,6 +1,7 @@
 -- Bytes put into a buffer one after another.
-use Rattle.std.proofs.Common.{◌≡◌, ℕ, ◌+◌, ◌-◌, ◌≤◌, false, ltb, List, [], ◌++◌, length, take, drop, sym, refl, ap, ◌∙◌, append_assoc, add-zero, arith, length-append, length-drop, take-append-drop, length-take, drop-drop}
+use Rattle.std.proofs.Common.{◌≡◌, ℕ, ◌+◌, ◌-◌, ◌≤◌, false, ltb, List, [], ◌++◌, length, take, drop, sym, refl, ap, ◌∙◌, append_assoc, append-nil, add-zero, arith, length-append, length-drop, take-append-drop, length-take, drop-drop}
 use borrow.Rule.Slice.PartMut.{put_mid}
+use Rattle.std.proofs.lemmas.List.{drop_all}
 use Rattle.std.proofs.lemmas.Slice.{take-put_mid, drop-put_mid}
 use Rattle.records.specs.Bytes.{bytes}
 use Rattle.records.specs.Writing.{placed, with_record}
@@ -37,3 +38,13 @@ record_put log at width bs r e w h =
     let fits : length (bytes r) ≤ length log - at = rw e at h in
     let room : ltb (length log - at) (length (bytes r)) ≡ false = grind arith in
     rw room (placed_part log at width bs (bytes r) e (w ∙ ap length e))
+
+-- the bytes that fill a buffer are what it then holds
+pub placed_all : (log bs after : List ℕ) → length log ≡ length bs → after ≡ placed log 0 bs → after ≡ bs
+placed_all log bs after h e =
+    let end : drop (0 + length bs) log ≡ [] = drop_all (0 + length bs) log (omega arith) in
+    e ∙ rw end (append-nil bs)
+
+-- bytes that are put behind those at the front, by what they are
+pub behind : (log front mid after xs bs : List ℕ) (next : ℕ) → next ≡ length front → length front + length bs ≤ length log → mid ≡ placed log 0 front → xs ≡ bs → after ≡ placed mid next xs → after ≡ placed log 0 (front ++ bs)
+behind log front mid after xs bs next n h m e p = placed_then log 0 next front bs mid after (omega arith) (omega arith) m (p ∙ ap (placed mid next) e)

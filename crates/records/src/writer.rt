@@ -1,53 +1,49 @@
-ghost use Rattle.std.specs.Prelude.{◌≡◌, ◌+◌, ◌≤◌, ◌++◌, length};
-ghost use Rattle.arrayvec.specs.ArrayVec.{array_vec_len};
+ghost use Rattle.std.specs.Prelude.{◌≡◌, ◌+◌, ◌≤◌, length};
 ghost use Rattle.records.specs.Bytes.{bytes, body, reading_bytes};
 ghost use Rattle.records.specs.Fitting.{Fitting};
-ghost use Rattle.records.specs.Writing.{Written};
+ghost use Rattle.records.specs.Writing.{placed, Written};
 
 use crate::record::{Noted, Record};
 use crate::refusal::WriteRefusal;
-use arrayvec::ArrayVec;
 
-// Bytes of a record, of which the longest has 23. The parts need different room, so each function says how much.
-type Bytes = ArrayVec<u8, 23>;
-
-fn put(out: &mut Bytes, bytes: &[u8])
-    requires { array_vec_len out.old + length bytes.now ≤ 23 }
-    ensures { out.new.items ≡ out.old.items ++ bytes.now }
+fn put(slot: &mut [u8], at: usize, bytes: &[u8])
+    requires { at + length bytes.now ≤ length slot.old }
+    ensures { slot.new ≡ placed slot.old at bytes.now }
 {
-    out.try_extend_from_slice(bytes).unwrap();
+    let end = at + bytes.len();
+    slot[at..end].copy_from_slice(bytes);
 }
 
-fn put_reading(out: &mut Bytes, r: Noted)
-    requires { array_vec_len out.old + 14 ≤ 23 }
-    ensures { out.new.items ≡ out.old.items ++ reading_bytes r }
+fn put_reading(slot: &mut [u8], r: Noted)
+    requires { length slot.old ≡ 14 }
+    ensures { slot.new ≡ reading_bytes r }
 {
-    put(out, &r.state.0.to_le_bytes());
-    put(out, &r.state.1.to_le_bytes());
-    put(out, &r.state.2.to_le_bytes());
-    put(out, &r.charge.to_le_bytes());
+    put(slot, 0, &r.state.0.to_le_bytes());
+    put(slot, 4, &r.state.1.to_le_bytes());
+    put(slot, 8, &r.state.2.to_le_bytes());
+    put(slot, 12, &r.charge.to_le_bytes());
 }
 
-fn put_body(out: &mut Bytes, r: Record)
-    requires { array_vec_len out.old + length (body r) ≤ 23 }
-    ensures { out.new.items ≡ out.old.items ++ body r }
+fn put_body(slot: &mut [u8], r: Record)
+    requires { length slot.old ≡ length (body r) }
+    ensures { slot.new ≡ body r }
 {
     match r {
-        Record::Begin { reading } | Record::Observe { reading } => put_reading(out, reading),
-        Record::Decide { proposal } => out.push(proposal),
+        Record::Begin { reading } | Record::Observe { reading } => put_reading(slot, reading),
+        Record::Decide { proposal } => put(slot, 0, &[proposal]),
         Record::Close => {}
         Record::Switch {
             tick,
             reason,
             reading,
         } => {
-            put(out, &tick.to_le_bytes());
-            out.push(reason);
-            put_reading(out, reading);
+            put(slot, 0, &tick.to_le_bytes());
+            put(slot, 4, &[reason]);
+            put_reading(&mut slot[5..], reading);
         }
         Record::Refusal { place, refusal } => {
-            put(out, &place.to_le_bytes());
-            out.push(refusal);
+            put(slot, 0, &place.to_le_bytes());
+            put(slot, 4, &[refusal]);
         }
         Record::Closing {
             tick,
@@ -56,37 +52,35 @@ fn put_body(out: &mut Bytes, r: Record)
             gains,
             losses,
         } => {
-            put(out, &tick.to_le_bytes());
-            put(out, &given.to_le_bytes());
-            put(out, &spent.to_le_bytes());
-            put(out, &gains.to_le_bytes());
-            put(out, &losses.to_le_bytes());
+            put(slot, 0, &tick.to_le_bytes());
+            put(slot, 4, &given.to_le_bytes());
+            put(slot, 8, &spent.to_le_bytes());
+            put(slot, 12, &gains.to_le_bytes());
+            put(slot, 16, &losses.to_le_bytes());
         }
     }
 }
 
 // The mark, the kind byte and the body.
-fn bytes(r: Record) -> Bytes
-    ensures value { result.items ≡ bytes r }
-    ensures fits { Fitting r }
+fn put_record(slot: &mut [u8], r: Record)
+    requires { length slot.old ≡ length (bytes r) }
+    ensures { slot.new ≡ bytes r }
 {
     let kind = r.kind();
-    let mut out = ArrayVec::new();
-    put(&mut out, &kind.mark());
-    out.push(kind.into());
-    put_body(&mut out, r);
-    out
+    put(slot, 0, &kind.mark());
+    put(slot, 2, &[kind.into()]);
+    put_body(&mut slot[3..], r);
 }
 
 // Writes the record into the buffer at the place, if it fits there, and answers where the next one goes.
 pub fn write(log: &mut [u8], at: usize, r: Record) -> Result<usize, WriteRefusal>
     ensures { Written log.old at r result log.new }
 {
-    let bytes = bytes(r);
-    if log.len().saturating_sub(at) < bytes.len() {
+    let size = 3 + r.kind().body_len();
+    if log.len().saturating_sub(at) < size {
         return Err(WriteRefusal::NoRoom);
     }
-    let end = at + bytes.len();
-    log[at..end].copy_from_slice(bytes.as_slice());
+    let end = at + size;
+    put_record(&mut log[at..end], r);
     Ok(end)
 }
