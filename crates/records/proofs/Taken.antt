@@ -75,7 +75,7 @@ named_step n j k o true q e further = let i : j ≡ k = cc in eqb-true n (number
 named_step n j k o false q e further = further e
 
 named : (n : ℕ) (k : Kind) (ks : List Kind) → first_with n ks ≡ Some k → n ≡ number_of k
-named n k [] e = let z : ◌≡◌ {A = ℕ} 0 1 = cc in omega arith
+named n k [] e = cc
 named n k (j ∷ ks) e = named_step n j k (first_with n ks) (eqb n (number_of j)) refl e (named n k ks)
 
 module _ (mark : List ℕ) (byte : ℕ) (bs : List ℕ) (small : Bytes bs) (r : Record) (rest : List ℕ) where

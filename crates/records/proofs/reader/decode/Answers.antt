@@ -1,21 +1,17 @@
-use Rattle.std.proofs.Common.{◌≡◌, ℕ, ◌≤◌, length, Some, None, Ok, Err, Option, Result, rules, arith}
+use Rattle.std.proofs.Common.{◌≡◌, ◌≤◌, length, Some, None, Ok, Option, rules}
 use Rattle.std.specs.Option.{ok_or}
 use Rattle.std.proofs.lemmas.List.{take_rest}
 use Rattle.std.proofs.lemmas.Slice.Eq.{bytes_eq-Decides}
 use Rattle.std.proofs.ByRecursion.{All-from_get_or}
 use Rattle.records.specs.Kinds.{kind_of, mark_of, length_of}
 use Rattle.records.specs.declared.record.Kind.{Kind}
-use Rattle.records.specs.declared.refusal.ReadRefusal.{ReadRefusal}
 use Rattle.records.specs.declared.refusal.ReadRefusal.TheVariants.{UnknownKind}
 use Rattle.records.proofs.Taken.{Bytes, taken}
 use Rattle.records.proofs.reader.decode.Goals as goal
 
-no_error : (k : Kind) → ◌≡◌ {A = Result Kind ReadRefusal} (Ok k) (Err UnknownKind) → ⊥
-no_error k e = let z : ◌≡◌ {A = ℕ} 0 1 = cc in omega arith
-
 some_of : (o : Option Kind) (k : Kind) → Ok k ≡ ok_or o UnknownKind → o ≡ Some k
 some_of (Some j) k e = cc
-some_of None k e = absurd (no_error k e)
+some_of None k e = cc
 
 pub returns-clause-taken : goal.returns-clause-taken
 returns-clause-taken c =
