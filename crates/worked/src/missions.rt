@@ -7,114 +7,120 @@ use guard::refusal::Refusal;
 use history::calls::{Answer, Call, Ticket};
 use std::test::Fail;
 
-// A call and its answer, as numbers. Calls: 1 begin and 4 observe with place, speed and charge, 2 decide with its byte,
-// 3 spend with the grant's four numbers, 5 close. Answers: 0 accepted, 1 a grant, 2 an action, 3 totals, 4 a refusal.
+// A call: a begin and an observe with place, speed and charge, a decide with its byte, a spend with the grant's four numbers.
+#[derive(Clone, Copy)]
+enum Asked {
+    Begin(i32, i32, u16),
+    Decide(u8),
+    Spend(u32, u32, u8, u8),
+    Observe(i32, i32, u16),
+    Close,
+}
+
+// An answer by its numbers: those of a grant, the action, the tick and the counts, the refusal's.
+#[derive(Clone, Copy, Debug, PartialEq, Eq)]
+enum Due {
+    Accepted,
+    Granted(u32, u32, u8, u8),
+    Spent(u8),
+    Ended(u32, u32, u32, u32, u32),
+    Refused(u8),
+}
+
 // The answers come from a model of the rules that shares no code with the library.
-const SCRIPT: [([u32; 5], [u32; 6]); 47] = [
-    ([2, 3, 0, 0, 0], [4, 6, 0, 0, 0, 0]),
-    ([1, 911, 20, 9, 0], [4, 7, 0, 0, 0, 0]),
-    ([5, 0, 0, 0, 0], [4, 6, 0, 0, 0, 0]),
-    ([1, 955, 0, 300, 0], [0, 0, 0, 0, 0, 0]),
-    ([2, 6, 0, 0, 0], [1, 77, 0, 6, 3, 0]),
-    ([3, 77, 0, 6, 3], [2, 6, 0, 0, 0, 0]),
-    ([4, 958, 3, 297, 0], [0, 0, 0, 0, 0, 0]),
-    ([2, 6, 0, 0, 0], [1, 77, 1, 6, 0, 0]),
-    ([3, 77, 1, 6, 0], [2, 6, 0, 0, 0, 0]),
-    ([4, 965, 7, 297, 0], [0, 0, 0, 0, 0, 0]),
-    ([2, 5, 0, 0, 0], [1, 77, 2, 5, 0, 0]),
-    ([3, 77, 2, 5, 0], [2, 5, 0, 0, 0, 0]),
-    ([4, 975, 9, 297, 0], [4, 9, 0, 0, 0, 0]),
-    ([4, 974, 9, 293, 0], [4, 10, 0, 0, 0, 0]),
-    ([4, 974, 9, 297, 0], [0, 0, 0, 0, 0, 0]),
-    ([2, 6, 0, 0, 0], [1, 77, 3, 7, 2, 0]),
-    ([3, 77, 3, 7, 2], [2, 7, 0, 0, 0, 0]),
-    ([4, 980, 6, 297, 0], [0, 0, 0, 0, 0, 0]),
-    ([2, 0, 0, 0, 0], [1, 77, 4, 7, 0, 0]),
-    ([3, 77, 4, 7, 0], [2, 7, 0, 0, 0, 0]),
-    ([4, 983, 3, 297, 0], [0, 0, 0, 0, 0, 0]),
-    ([2, 7, 0, 0, 0], [1, 77, 5, 7, 3, 0]),
-    ([3, 77, 5, 8, 3], [4, 8, 0, 0, 0, 0]),
-    ([3, 77, 5, 7, 3], [2, 7, 0, 0, 0, 0]),
-    ([4, 983, 0, 296, 0], [0, 0, 0, 0, 0, 0]),
-    ([2, 255, 0, 0, 0], [1, 77, 6, 7, 1, 0]),
-    ([3, 77, 6, 7, 1], [2, 7, 0, 0, 0, 0]),
-    ([4, 983, 0, 296, 0], [0, 0, 0, 0, 0, 0]),
-    ([2, 6, 0, 0, 0], [1, 77, 7, 6, 3, 0]),
-    ([3, 77, 7, 6, 3], [2, 6, 0, 0, 0, 0]),
-    ([4, 987, 4, 291, 0], [4, 10, 0, 0, 0, 0]),
-    ([4, 987, 4, 292, 0], [0, 0, 0, 0, 0, 0]),
-    ([2, 6, 0, 0, 0], [1, 77, 8, 7, 2, 0]),
-    ([3, 77, 8, 7, 2], [2, 7, 0, 0, 0, 0]),
-    ([4, 987, 0, 290, 0], [4, 10, 0, 0, 0, 0]),
-    ([4, 987, 0, 292, 0], [0, 0, 0, 0, 0, 0]),
-    ([2, 3, 0, 0, 0], [1, 77, 9, 3, 3, 0]),
-    ([3, 77, 9, 3, 3], [2, 3, 0, 0, 0, 0]),
-    ([4, 987, 0, 291, 0], [0, 0, 0, 0, 0, 0]),
-    ([2, 6, 0, 0, 0], [1, 77, 10, 6, 0, 0]),
-    ([3, 77, 10, 6, 0], [2, 6, 0, 0, 0, 0]),
-    ([4, 991, 4, 287, 0], [0, 0, 0, 0, 0, 0]),
-    ([2, 7, 0, 0, 0], [1, 77, 11, 7, 0, 0]),
-    ([3, 77, 11, 7, 0], [2, 7, 0, 0, 0, 0]),
-    ([5, 0, 0, 0, 0], [3, 11, 12, 12, 4, 3]),
-    ([5, 0, 0, 0, 0], [4, 6, 0, 0, 0, 0]),
-    ([1, 955, 0, 300, 0], [4, 6, 0, 0, 0, 0]),
+const SCRIPT: [(Asked, Due); 47] = [
+    (Asked::Decide(3), Due::Refused(6)),
+    (Asked::Begin(911, 20, 9), Due::Refused(7)),
+    (Asked::Close, Due::Refused(6)),
+    (Asked::Begin(955, 0, 300), Due::Accepted),
+    (Asked::Decide(6), Due::Granted(77, 0, 6, 3)),
+    (Asked::Spend(77, 0, 6, 3), Due::Spent(6)),
+    (Asked::Observe(958, 3, 297), Due::Accepted),
+    (Asked::Decide(6), Due::Granted(77, 1, 6, 0)),
+    (Asked::Spend(77, 1, 6, 0), Due::Spent(6)),
+    (Asked::Observe(965, 7, 297), Due::Accepted),
+    (Asked::Decide(5), Due::Granted(77, 2, 5, 0)),
+    (Asked::Spend(77, 2, 5, 0), Due::Spent(5)),
+    (Asked::Observe(975, 9, 297), Due::Refused(9)),
+    (Asked::Observe(974, 9, 293), Due::Refused(10)),
+    (Asked::Observe(974, 9, 297), Due::Accepted),
+    (Asked::Decide(6), Due::Granted(77, 3, 7, 2)),
+    (Asked::Spend(77, 3, 7, 2), Due::Spent(7)),
+    (Asked::Observe(980, 6, 297), Due::Accepted),
+    (Asked::Decide(0), Due::Granted(77, 4, 7, 0)),
+    (Asked::Spend(77, 4, 7, 0), Due::Spent(7)),
+    (Asked::Observe(983, 3, 297), Due::Accepted),
+    (Asked::Decide(7), Due::Granted(77, 5, 7, 3)),
+    (Asked::Spend(77, 5, 8, 3), Due::Refused(8)),
+    (Asked::Spend(77, 5, 7, 3), Due::Spent(7)),
+    (Asked::Observe(983, 0, 296), Due::Accepted),
+    (Asked::Decide(255), Due::Granted(77, 6, 7, 1)),
+    (Asked::Spend(77, 6, 7, 1), Due::Spent(7)),
+    (Asked::Observe(983, 0, 296), Due::Accepted),
+    (Asked::Decide(6), Due::Granted(77, 7, 6, 3)),
+    (Asked::Spend(77, 7, 6, 3), Due::Spent(6)),
+    (Asked::Observe(987, 4, 291), Due::Refused(10)),
+    (Asked::Observe(987, 4, 292), Due::Accepted),
+    (Asked::Decide(6), Due::Granted(77, 8, 7, 2)),
+    (Asked::Spend(77, 8, 7, 2), Due::Spent(7)),
+    (Asked::Observe(987, 0, 290), Due::Refused(10)),
+    (Asked::Observe(987, 0, 292), Due::Accepted),
+    (Asked::Decide(3), Due::Granted(77, 9, 3, 3)),
+    (Asked::Spend(77, 9, 3, 3), Due::Spent(3)),
+    (Asked::Observe(987, 0, 291), Due::Accepted),
+    (Asked::Decide(6), Due::Granted(77, 10, 6, 0)),
+    (Asked::Spend(77, 10, 6, 0), Due::Spent(6)),
+    (Asked::Observe(991, 4, 287), Due::Accepted),
+    (Asked::Decide(7), Due::Granted(77, 11, 7, 0)),
+    (Asked::Spend(77, 11, 7, 0), Due::Spent(7)),
+    (Asked::Close, Due::Ended(11, 12, 12, 4, 3)),
+    (Asked::Close, Due::Refused(6)),
+    (Asked::Begin(955, 0, 300), Due::Refused(6)),
 ];
 
-fn reading(cart: &Cart, n: &[u32; 5]) -> Result<Reading<CartState>, Fail> {
-    let x = i32::try_from(n[1])?;
-    let v = i32::try_from(n[2])?;
-    match cart.state((x, v, 0)) {
-        Ok(state) => Ok(Reading {
-            state,
-            charge: u16::try_from(n[3])?,
-        }),
-        Err(_) => Err(Fail::new("no such state")),
-    }
+fn reading(cart: &Cart, x: i32, v: i32, charge: u16) -> Result<Reading<CartState>, Fail> {
+    let state = cart.state((x, v, 0))?;
+    Ok(Reading { state, charge })
 }
 
-fn call(cart: &Cart, n: &[u32; 5]) -> Result<Call<CartState>, Fail> {
-    match n[0] {
-        1 => Ok(Call::Begin(reading(cart, n)?)),
-        2 => Ok(Call::Decide(u8::try_from(n[1])?)),
-        3 => Ok(Call::Spend(Ticket {
-            mission: n[1],
-            tick: n[2],
-            action: u8::try_from(n[3])?,
-            reason: u8::try_from(n[4])?,
+fn call(cart: &Cart, asked: Asked) -> Result<Call<CartState>, Fail> {
+    match asked {
+        Asked::Begin(x, v, charge) => Ok(Call::Begin(reading(cart, x, v, charge)?)),
+        Asked::Decide(b) => Ok(Call::Decide(b)),
+        Asked::Spend(mission, tick, action, reason) => Ok(Call::Spend(Ticket {
+            mission,
+            tick,
+            action,
+            reason,
         })),
-        4 => Ok(Call::Observe(reading(cart, n)?)),
-        _ => Ok(Call::Close),
+        Asked::Observe(x, v, charge) => Ok(Call::Observe(reading(cart, x, v, charge)?)),
+        Asked::Close => Ok(Call::Close),
     }
 }
 
-fn shown(answer: Answer) -> [u32; 6] {
-    match answer {
-        Answer::Accepted => [0, 0, 0, 0, 0, 0],
-        Answer::Granted(t) => [1, t.mission, t.tick, t.action as u32, t.reason as u32, 0],
-        Answer::Spent(a) => [2, a as u32, 0, 0, 0, 0],
-        Answer::Ended(t) => [3, t.tick, t.given, t.spent, t.gains, t.losses],
-        Answer::Refused(x) => [4, x.number() as u32, 0, 0, 0, 0],
-    }
-}
-
-fn cart() -> Result<Cart, Fail> {
-    match Cart::new(1000) {
-        Ok(cart) => Ok(cart),
-        Err(_) => Err(Fail::new("no such cart")),
+impl From<Answer> for Due {
+    fn from(answer: Answer) -> Due {
+        match answer {
+            Answer::Accepted => Due::Accepted,
+            Answer::Granted(t) => Due::Granted(t.mission, t.tick, t.action, t.reason),
+            Answer::Spent(a) => Due::Spent(a),
+            Answer::Ended(t) => Due::Ended(t.tick, t.given, t.spent, t.gains, t.losses),
+            Answer::Refused(x) => Due::Refused(x.number()),
+        }
     }
 }
 
 #[test]
 fn a_mission_by_the_model(rt: HostRuntime) -> Result<(), Fail> {
-    let cart = cart()?;
+    let cart = Cart::new(1000)?;
     let mut calls = Vec::new(rt.alloc());
-    for (n, _) in &SCRIPT {
-        calls.push(call(&cart, n)?)?;
+    for (asked, _) in SCRIPT {
+        calls.push(call(&cart, asked)?)?;
     }
     let answers = replay(rt.alloc(), cart, 77, calls.as_slice())?;
     assert_eq!(rt; answers.len(), SCRIPT.len());
-    for (answer, (_, due)) in answers.iter().zip(SCRIPT.iter()) {
-        assert_eq!(rt; shown(*answer), *due);
+    for (answer, (_, due)) in answers.iter().zip(SCRIPT) {
+        assert_eq!(rt; Due::from(*answer), due);
     }
     Ok(())
 }
