@@ -1,1 +1,4 @@
+pub mod Faults
 pub mod Kinds
+pub mod Machines
+pub mod Sources

@@ -1,3 +1,7 @@
+ghost use Rattle.std.specs.Prelude.{◌≡◌};
+ghost use Rattle.mission.specs.declared.fault.Why.TheVariants.{NotMade, NoState, NotAdded};
+ghost use Rattle.mission.specs.declared.fault.Fault.TheVariants.{Call};
+
 use guard::refusal::{Refusal, StateRefusal};
 use history::calls::CallRefusal;
 use layers::draft::refusal::DraftRefusal;
@@ -82,18 +86,24 @@ impl fmt::Display for Why {
 }
 
 impl From<MakingRefusal> for Why {
+    ghost from_gives = { λ x e. e ≡ NotMade x };
+
     fn from(x: MakingRefusal) -> Why {
         Why::NotMade(x)
     }
 }
 
 impl From<StateRefusal> for Why {
+    ghost from_gives = { λ x e. e ≡ NoState x };
+
     fn from(x: StateRefusal) -> Why {
         Why::NoState(x)
     }
 }
 
 impl From<DraftRefusal> for Why {
+    ghost from_gives = { λ x e. e ≡ NotAdded x };
+
     fn from(x: DraftRefusal) -> Why {
         Why::NotAdded(x)
     }
@@ -153,6 +163,8 @@ impl fmt::Display for Fault<'_> {
 }
 
 impl From<CallRefusal> for Fault<'_> {
+    ghost from_gives = { λ x e. e ≡ Call x };
+
     fn from(x: CallRefusal) -> Self {
         Fault::Call(x)
     }

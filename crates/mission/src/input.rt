@@ -1,15 +1,24 @@
+ghost use Rattle.std.specs.Prelude.{◌≡◌, length, IfOk};
+ghost use Rattle.mission.specs.Sources.{word_count};
+
 use crate::fault::{Fault, Why};
 use std::io::Read;
 use std::{fs, io};
 use text::hex;
 use text::hex::HexFault;
 
+// How bytes are written: as they are, or as hexadecimal text.
+#[derive(Clone, Copy, Debug, PartialEq, Eq)]
+pub enum Form {
+    Binary,
+    Hex,
+}
+
 // Where bytes come from: a file, or standard input where the word is `-`.
 #[derive(Clone, Copy)]
-pub enum Source<'a> {
-    Binary(&'a str),
-    // hexadecimal text
-    Hex(&'a str),
+pub struct Source<'a> {
+    pub form: Form,
+    pub word: &'a str,
 }
 
 fn contents(rt: &HostRuntime, word: &str) -> io::Result<Vec<u8>> {
@@ -31,33 +40,35 @@ fn no_hex<'a>(fault: HexFault, word: &'a str) -> Fault<'a> {
 
 impl<'a> Source<'a> {
     // The source of `COMMAND [--hex] FILE`.
-    pub fn named(words: &'a [String]) -> Result<Source<'a>, Fault<'a>> {
+    pub fn named(words: &'a [String]) -> Result<Source<'a>, Fault<'a>>
+        ensures { IfOk result (λ source. length words.now ≡ word_count source.form) }
+    {
         match words {
             [word] => match word.as_str() {
                 "--hex" => Err(Fault::Usage),
-                file => Ok(Source::Binary(file)),
+                word => Ok(Source {
+                    form: Form::Binary,
+                    word,
+                }),
             },
             [option, word] => match (option.as_str(), word.as_str()) {
-                ("--hex", file) | (file, "--hex") => Ok(Source::Hex(file)),
+                ("--hex", word) | (word, "--hex") => Ok(Source {
+                    form: Form::Hex,
+                    word,
+                }),
                 (other, _) => Err(Fault::Word(Why::NoOption, other)),
             },
             _ => Err(Fault::Usage),
         }
     }
 
-    pub fn word(self) -> &'a str {
-        match self {
-            Source::Binary(word) | Source::Hex(word) => word,
-        }
-    }
-
     // All its bytes.
     pub fn bytes(self, rt: &HostRuntime) -> Result<Vec<u8>, Fault<'a>> {
-        let word = self.word();
+        let word = self.word;
         let bytes = contents(rt, word).map_err(|_| Fault::Word(Why::NoBytes, word))?;
-        match self {
-            Source::Binary(_) => Ok(bytes),
-            Source::Hex(_) => {
+        match self.form {
+            Form::Binary => Ok(bytes),
+            Form::Hex => {
                 hex::bytes(rt.alloc(), bytes.as_slice()).map_err(|fault| no_hex(fault, word))
             }
         }

@@ -29,7 +29,7 @@ fn print(rt: &HostRuntime, found: &Planned) -> io::Result<()> {
 // `mission keep [--hex] LOG`: the ticks in which the planner had control.
 pub fn run<'a>(rt: &HostRuntime, words: &'a [String]) -> Result<(), Fault<'a>> {
     let source = Source::named(words)?;
-    let (word, log) = (source.word(), source.bytes(rt)?);
+    let (word, log) = (source.word, source.bytes(rt)?);
     match planner_ticks(rt.alloc(), log.as_slice()) {
         Ok(found) => {
             print(rt, &found)?;

@@ -1,3 +1,7 @@
+ghost use Rattle.std.specs.Prelude.{◌≡◌, ◌⊎◌, IfErr};
+ghost use Rattle.mission.specs.Faults.{OfRegions, OfLayer};
+ghost use Rattle.mission.specs.declared.fault.Why.TheVariants.{RegionForm, NotNumbers};
+
 use crate::fault::Why;
 use crate::words;
 use guard::geometry::{Point, Region};
@@ -11,7 +15,9 @@ pub enum Layer {
 }
 
 // The region of a word such as `8,0,0,9,20,0`: the lower corner, then the upper.
-fn region(word: &str) -> Result<Region, Why> {
+fn region(word: &str) -> Result<Region, Why>
+    ensures { IfErr result (λ e. (e ≡ RegionForm) ⊎ (e ≡ NotNumbers)) }
+{
     let [x, y, z, to_x, to_y, to_z] = words::numbers::<6>(Why::RegionForm, word)?;
     Ok(Region {
         low: Point { x, y, z },
@@ -24,7 +30,9 @@ fn region(word: &str) -> Result<Region, Why> {
 }
 
 // The draft of regions that are joined by `+`; an empty one of the empty word.
-fn draft(word: &str) -> Result<Draft, Why> {
+fn draft(word: &str) -> Result<Draft, Why>
+    ensures { IfErr result OfRegions }
+{
     let mut draft = Draft::new();
     if word.is_empty() {
         return Ok(draft);
@@ -37,7 +45,9 @@ fn draft(word: &str) -> Result<Draft, Why> {
 
 impl Layer {
     // The layer of a word such as `fence:8,0,0,9,20,0` or `battery:10`.
-    pub fn read(word: &str) -> Result<Layer, Why> {
+    pub fn read(word: &str) -> Result<Layer, Why>
+        ensures { IfErr result OfLayer }
+    {
         match word.split_once(':') {
             Some(("fence", regions)) => Ok(Layer::Fence(draft(regions)?)),
             Some(("battery", reserve)) => match reserve.parse::<u16>() {

@@ -1,5 +1,7 @@
-ghost use Rattle.std.specs.Prelude.{◌≡◌, ◌⊎◌, IfOk, IfErr};
+ghost use Rattle.std.specs.Prelude.{◌≡◌, ◌⊎◌, pos, IfOk, IfErr};
+ghost use Rattle.mission.specs.Faults.{OfMachine, OfState};
 ghost use Rattle.mission.specs.Kinds.{form, Padded};
+ghost use Rattle.mission.specs.Machines.{halfway, Centred};
 ghost use Rattle.mission.specs.declared.fault.Why.TheVariants.{NotNumbers};
 
 use crate::fault::Why;
@@ -8,6 +10,7 @@ use cart::Cart;
 use drone::Drone;
 use guard::Guard;
 use guard::reading::Reading;
+use machines::making::MakingRefusal;
 use std::fmt;
 
 // Which machine a command is about: how its states are written and shown.
@@ -36,7 +39,10 @@ impl Kind {
     }
 
     // The machine's state of this word.
-    pub fn state<G: Guard>(self, g: &G, word: &str) -> Result<G::State, Why> {
+    pub fn state<G: Guard>(self, g: &G, word: &str) -> Result<G::State, Why>
+        ensures padded { IfOk result (λ s. Padded self ((G.Guard.meaning g.now).numbers s)) }
+        ensures fault { IfErr result (OfState (form self)) }
+    {
         Ok(g.state(self.numbers(word)?)?)
     }
 }
@@ -48,17 +54,36 @@ pub enum Machine {
     Drone(Drone, (i32, i32, i32)),
 }
 
+// Halfway along x and y, on the ground.
+fn middle(x: i32, y: i32) -> (i32, i32, i32)
+    ensures { result ≡ halfway (x, y, pos 0) }
+{
+    (x / 2, y / 2, 0)
+}
+
 impl Machine {
+    fn cart(length: i32) -> Result<Machine, MakingRefusal>
+        ensures { IfOk result Centred }
+    {
+        Ok(Machine::Cart(Cart::new(length)?, middle(length, 0)))
+    }
+
+    fn drone(x: i32, y: i32, z: i32) -> Result<Machine, MakingRefusal>
+        ensures { IfOk result Centred }
+    {
+        Ok(Machine::Drone(Drone::new(x, y, z)?, middle(x, y)))
+    }
+
     // The machine of a word such as `cart:1000` or `drone:20,20,10`.
-    pub fn read(word: &str) -> Result<Machine, Why> {
+    pub fn read(word: &str) -> Result<Machine, Why>
+        ensures centred { IfOk result Centred }
+        ensures fault { IfErr result OfMachine }
+    {
         match word.split_once(':') {
-            Some(("cart", length)) => {
-                let n = words::number(length)?;
-                Ok(Machine::Cart(Cart::new(n)?, (n / 2, 0, 0)))
-            }
+            Some(("cart", length)) => Ok(Machine::cart(words::number(length)?)?),
             Some(("drone", size)) => {
                 let [x, y, z] = words::numbers::<3>(Why::HallForm, size)?;
-                Ok(Machine::Drone(Drone::new(x, y, z)?, (x / 2, y / 2, 0)))
+                Ok(Machine::drone(x, y, z)?)
             }
             _ => Err(Why::NoMachine),
         }
@@ -74,7 +99,10 @@ pub struct Shown {
 
 impl Shown {
     // The state of the reading.
-    pub fn new<G: Guard>(kind: Kind, g: &G, r: Reading<G::State>) -> Shown {
+    pub fn new<G: Guard>(kind: Kind, g: &G, r: Reading<G::State>) -> Shown
+        ensures kind { result.kind ≡ kind }
+        ensures numbers { result.numbers ≡ (G.Guard.meaning g.now).numbers r.state }
+    {
         Shown {
             kind,
             numbers: g.numbers(r.state),

@@ -1,6 +1,9 @@
-ghost use Rattle.std.specs.Prelude.{◌≤◌, length, IfOk};
+ghost use Rattle.std.specs.Prelude.{◌≡◌, ◌≤◌, false, None, length, vec_len, IfOk, IfErr};
+ghost use Rattle.mission.specs.Faults.{OfOption};
+ghost use Rattle.mission.specs.declared.input.Form.TheVariants.{Binary};
 
 use crate::fault::{Fault, Why};
+use crate::input::Form;
 use crate::task::Task;
 use crate::words;
 use std::alloc::Global;
@@ -20,12 +23,18 @@ pub struct Options<'a> {
     pub log: Option<&'a str>,
     // whether only the last line of a run is printed
     pub quiet: bool,
-    // whether the tape of a run is hexadecimal text
-    pub hex: bool,
+    // how the tape of a run is written
+    pub form: Form,
 }
 
 impl<'a> Options<'a> {
-    fn none() -> Options<'a> {
+    fn none() -> Options<'a>
+        ensures charge { result.charge ≡ 65535 }
+        ensures mission { result.mission ≡ 0 }
+        ensures log_size { result.log_size ≡ None }
+        ensures quiet { result.quiet ≡ false }
+        ensures form { result.form ≡ Binary }
+    {
         Options {
             charge: u16::MAX,
             gusts: None,
@@ -33,12 +42,14 @@ impl<'a> Options<'a> {
             log_size: None,
             log: None,
             quiet: false,
-            hex: false,
+            form: Form::Binary,
         }
     }
 
     // With an option that has a value.
-    fn with(self, option: &str, value: &'a str) -> Result<Options<'a>, Why> {
+    fn with(self, option: &str, value: &'a str) -> Result<Options<'a>, Why>
+        ensures { IfErr result OfOption }
+    {
         match option {
             "--charge" => Ok(Options {
                 charge: words::charge(value)?,
@@ -93,7 +104,7 @@ fn take<'a, T: Task>(
             Ok(after)
         }
         ("--hex", _) => {
-            options.hex = true;
+            options.form = Form::Hex;
             Ok(after)
         }
         (_, [value, left @ ..]) => {
@@ -111,7 +122,9 @@ fn take<'a, T: Task>(
 pub fn read<'a, T: Task>(
     heap: Global,
     words: &'a [String],
-) -> Result<(Options<'a>, Vec<&'a str>), Fault<'a>> {
+) -> Result<(Options<'a>, Vec<&'a str>), Fault<'a>>
+    ensures { IfOk result (λ r. vec_len r.1 ≤ length words.now) }
+{
     let mut options = Options::none();
     let mut places = Vec::new(heap);
     let mut rest = words;

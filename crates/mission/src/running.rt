@@ -64,10 +64,11 @@ fn store<'a>(rt: &HostRuntime, file: &'a str, log: &[u8]) -> Result<(), Fault<'a
 pub fn run<'a, G: Guard + Drop>(
     rt: &HostRuntime,
     g: G,
-    tape: Source<'a>,
+    word: &'a str,
     given: Options<'a>,
 ) -> Result<(), Fault<'a>> {
-    let tape = tape.bytes(rt)?;
+    let form = given.form;
+    let tape = Source { form, word }.bytes(rt)?;
     let size = given.log_size.unwrap_or(room(tape.len()));
     let mut log = vec![in rt.alloc(); 0u8; size]?;
     let mut e = Executive::new(g, given.mission);

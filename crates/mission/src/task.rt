@@ -1,5 +1,4 @@
 use crate::fault::{Fault, Why};
-use crate::input::Source;
 use crate::machine::Kind;
 use crate::options::Options;
 use crate::{brake, judge, running, script, words};
@@ -122,11 +121,6 @@ impl Task for Run {
         g: G,
         job: Job<'a>,
     ) -> Result<(), Fault<'a>> {
-        let tape = if job.given.hex {
-            Source::Hex(job.word)
-        } else {
-            Source::Binary(job.word)
-        };
-        running::run(rt, g, tape, job.given)
+        running::run(rt, g, job.word, job.given)
     }
 }
