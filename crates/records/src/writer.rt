@@ -73,6 +73,7 @@ fn put_record(slot: &mut [u8], r: Record)
 }
 
 // Writes the record into the buffer at the place, if it fits there, and answers where the next one goes.
+#[tactic(auto, using(crate::proofs::Round::round, crate::proofs::Placing::record_put))]
 pub fn write(log: &mut [u8], at: usize, r: Record) -> Result<usize, WriteRefusal>
     ensures { Written log.old at r result log.new }
 {

@@ -32,10 +32,10 @@ enum Glyph {
     Other,
 }
 
-impl Glyph {
-    fn of(c: u8) -> Glyph
-        ensures { result ≡ glyph_of c }
-    {
+impl From<u8> for Glyph {
+    ghost from_gives = { λ c glyph. glyph ≡ glyph_of c };
+
+    fn from(c: u8) -> Glyph {
         match c {
             b' ' | b'\t' | b'\n' | b'\r' => Glyph::Blank,
             b'0'..=b'9' => Glyph::Digit(c - b'0'),
@@ -62,7 +62,7 @@ pub fn bytes(heap: Global, text: &[u8]) -> Result<Vec<u8>, HexFault>
     let mut bytes = Vec::new(heap);
     let mut high = None;
     for (i, c) in text.iter().enumerate() {
-        match Glyph::of(*c) {
+        match Glyph::from(*c) {
             Glyph::Blank => {}
             Glyph::Other => return Err(HexFault::NotDigit(i)),
             Glyph::Digit(d) => match high.take() {

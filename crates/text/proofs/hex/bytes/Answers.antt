@@ -13,7 +13,7 @@ pub loop-i-preserved : goal.loop-i-preserved
 loop-i-preserved c =
     let t = c.args.text.now in
     let i = c.loop-i.i in
-    elim c.match-of.branch [
+    elim c.match-from.branch [
       | in-Blank w ↦ rw (w.bytes-is, w.high-is) (blank_more t _ i _ c.loop-i.invariant c.loop-i-test.true w.in-Blank.ensures)
       | in-Digit+in-None w ↦ rw (w.bytes-is, w.high-is) (first_more t _ i _ _ c.loop-i.invariant (search rules) c.loop-i-test.true w.in-Digit.ensures)
       | in-Digit+in-Some+in_ok-push-in-Some w ↦ rw (w.bytes-is, w.high-is, w.in_ok-push-in-Some.ensures.items, w.byte.ensures, w.take.ensures.after) (second_more t _ i _ _ _ c.loop-i.invariant (search rules) c.loop-i-test.true w.in-Digit.ensures)
