@@ -1,7 +1,6 @@
-use crate::regions::region;
+use crate::given::{recovers, region};
 use cart::Cart;
 use guard::Guard;
-use guard::reading::Reading;
 use guard::refusal::Refusal;
 use std::process::Abort;
 use std::test::Fail;
@@ -95,23 +94,15 @@ fn speeds_and_places(rt: HostRuntime) -> Result<(), Fail> {
     Ok(())
 }
 
-fn recovers(cart: &Cart, x: i32, v: i32) -> Result<bool, Fail> {
-    let state = cart.state((x, v, 0))?;
-    Ok(cart.recoverable(Reading {
-        state,
-        charge: 65535,
-    }))
-}
-
 #[test]
 fn recoverable_edges(rt: HostRuntime) -> Result<(), Fail> {
     let cart = Cart::new(1000)?;
-    assert!(rt; recovers(&cart, 910, 20)?);
-    assert!(rt; !recovers(&cart, 911, 20)?);
-    assert!(rt; recovers(&cart, 2, -4)?);
-    assert!(rt; !recovers(&cart, 1, -4)?);
-    assert!(rt; recovers(&cart, 0, 0)? && recovers(&cart, 1000, 0)?);
-    assert!(rt; !recovers(&cart, -1, 0)? && !recovers(&cart, 1001, 0)?);
+    assert!(rt; recovers(&cart, (910, 20, 0))?);
+    assert!(rt; !recovers(&cart, (911, 20, 0))?);
+    assert!(rt; recovers(&cart, (2, -4, 0))?);
+    assert!(rt; !recovers(&cart, (1, -4, 0))?);
+    assert!(rt; recovers(&cart, (0, 0, 0))? && recovers(&cart, (1000, 0, 0))?);
+    assert!(rt; !recovers(&cart, (-1, 0, 0))? && !recovers(&cart, (1001, 0, 0))?);
     Ok(())
 }
 

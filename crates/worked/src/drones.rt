@@ -1,7 +1,6 @@
-use crate::regions::region;
+use crate::given::{recovers, region};
 use drone::Drone;
 use guard::Guard;
-use guard::reading::Reading;
 use guard::refusal::Refusal;
 use std::process::Abort;
 use std::test::Fail;
@@ -107,14 +106,6 @@ fn draws_and_ticks(rt: HostRuntime) -> Result<(), Fail> {
     assert_eq!(rt; (drone.fallback(flying), drone.fallback_draw()), (6, 2));
     assert_eq!(rt; (drone.action_count(), drone.gust_count()), (7, 9));
     Ok(())
-}
-
-fn recovers(drone: &Drone, n: (i32, i32, i32)) -> Result<bool, Fail> {
-    let state = drone.state(n)?;
-    Ok(drone.recoverable(Reading {
-        state,
-        charge: 65535,
-    }))
 }
 
 #[test]

@@ -7,6 +7,8 @@ mod carts;
 #[cfg(test)]
 mod drones;
 #[cfg(test)]
+mod given;
+#[cfg(test)]
 mod missions;
 #[cfg(test)]
 mod regions;

@@ -1,20 +1,5 @@
-use guard::geometry::{Point, Region};
-
-// The region with these corners.
-pub(crate) fn region(low: (i32, i32, i32), high: (i32, i32, i32)) -> Region {
-    Region {
-        low: Point {
-            x: low.0,
-            y: low.1,
-            z: low.2,
-        },
-        high: Point {
-            x: high.0,
-            y: high.1,
-            z: high.2,
-        },
-    }
-}
+use crate::given::region;
+use guard::geometry::Point;
 
 #[test]
 fn touching(rt: HostRuntime) {

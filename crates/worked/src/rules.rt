@@ -1,18 +1,12 @@
+use crate::given::reading;
 use cart::Cart;
-use cart::state::CartState;
-use guard::reading::Reading;
 use guard::{Guard, rule};
 use std::test::Fail;
-
-fn reading(cart: &Cart, x: i32, v: i32, charge: u16) -> Result<Reading<CartState>, Fail> {
-    let state = cart.state((x, v, 0))?;
-    Ok(Reading { state, charge })
-}
 
 #[test]
 fn admissible_actions(rt: HostRuntime) -> Result<(), Fail> {
     let cart = Cart::new(1000)?;
-    let r = reading(&cart, 900, 20, 65535)?;
+    let r = reading(&cart, (900, 20, 0), 65535)?;
     for (a, gust) in [
         (0, None),
         (1, None),
@@ -41,7 +35,7 @@ fn calm_places(rt: HostRuntime) -> Result<(), Fail> {
         (5, 0, false),
         (-36, 40, true),
     ] {
-        assert_eq!(rt; rule::calm(&cart, reading(&cart, x, v, 65535)?), calm);
+        assert_eq!(rt; rule::calm(&cart, reading(&cart, (x, v, 0), 65535)?), calm);
     }
     Ok(())
 }
@@ -50,7 +44,7 @@ fn calm_places(rt: HostRuntime) -> Result<(), Fail> {
 fn what_can_follow(rt: HostRuntime) -> Result<(), Fail> {
     let cart = Cart::new(1000)?;
     // action 6 accelerates by 3 and draws at most 4
-    let r = reading(&cart, 500, 0, 200)?;
+    let r = reading(&cart, (500, 0, 0), 200)?;
     for (x, v, charge, follows) in [
         (504, 4, 196, true),
         (503, 3, 200, true),
@@ -60,12 +54,12 @@ fn what_can_follow(rt: HostRuntime) -> Result<(), Fail> {
         (505, 5, 196, false),
         (504, 3, 196, false),
     ] {
-        let t = reading(&cart, x, v, charge)?;
+        let t = reading(&cart, (x, v, 0), charge)?;
         assert_eq!(rt; rule::can_follow(&cart, r, 6, t), follows);
         assert!(rt; !rule::can_follow(&cart, r, 8, t));
     }
     // the lowest charge is 0
-    let low = reading(&cart, 500, 0, 3)?;
+    let low = reading(&cart, (500, 0, 0), 3)?;
     assert!(rt;
         rule::charge_can_follow(&cart, low, 6, 0) && rule::charge_can_follow(&cart, low, 6, 3)
     );

@@ -1,8 +1,7 @@
-use crate::regions::region;
+use crate::given::{reading, region};
 use cart::Cart;
 use drone::Drone;
 use guard::geometry::Region;
-use guard::reading::Reading;
 use guard::refusal::Refusal;
 use guard::{Guard, rule};
 use layers::battery::Battery;
@@ -13,11 +12,6 @@ fn draft_of(region: Region) -> Result<Draft, Fail> {
     let mut draft = Draft::new();
     draft.add(region)?;
     Ok(draft)
-}
-
-fn reading<G: Guard>(g: &G, n: (i32, i32, i32), charge: u16) -> Result<Reading<G::State>, Fail> {
-    let state = g.state(n)?;
-    Ok(Reading { state, charge })
 }
 
 fn judged<G: Guard>(g: &G, n: (i32, i32, i32), charge: u16) -> Result<(bool, bool), Fail> {
