@@ -66,6 +66,7 @@ impl Guard for Cart {
 
     ghost lawful = { λ c. cart_laws c.length c.short };
 
+    // The counts stand beside the constants, since generic code sees no constant's value.
     fn action_count(&self) -> u8 {
         Self::ACTIONS
     }

@@ -72,6 +72,7 @@ impl Guard for Drone {
 
     ghost lawful = { λ d. drone_laws (size d) (record { x = fits_below _ d.x.fit; y = fits_below _ d.y.fit }) };
 
+    // The counts stand beside the constants, since generic code sees no constant's value.
     fn action_count(&self) -> u8 {
         Self::ACTIONS
     }

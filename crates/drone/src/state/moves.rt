@@ -173,6 +173,7 @@ impl TryFrom<(i32, i32, i32)> for DroneState {
 
     fn try_from(n: (i32, i32, i32)) -> Result<DroneState, StateRefusal> {
         let (x, y, z) = n;
+        // compared one by one: with a range's `contains` for z, the proof of the refusal did not close
         if x.unsigned_abs() <= MAX_XY.unsigned_abs()
             && y.unsigned_abs() <= MAX_XY.unsigned_abs()
             && 0 <= z
