@@ -173,15 +173,12 @@ impl TryFrom<(i32, i32, i32)> for DroneState {
 
     fn try_from(n: (i32, i32, i32)) -> Result<DroneState, StateRefusal> {
         let (x, y, z) = n;
-        // compared one by one: with a range's `contains` for z, the proof of the refusal did not close
-        if x.unsigned_abs() <= MAX_XY.unsigned_abs()
-            && y.unsigned_abs() <= MAX_XY.unsigned_abs()
-            && 0 <= z
-            && z <= i32::from(MAX_Z)
-        {
-            Ok(DroneState::held(x, y, z as u16))
-        } else {
-            Err(StateRefusal::NoSuchState)
+        match u16::try_from(z) {
+            Ok(z)
+                if x.unsigned_abs() <= MAX_XY.unsigned_abs()
+                    && y.unsigned_abs() <= MAX_XY.unsigned_abs()
+                    && z <= MAX_Z => { Ok(DroneState::held(x, y, z)) }
+            _ => Err(StateRefusal::NoSuchState),
         }
     }
 }
