@@ -18,6 +18,7 @@ pub struct Returned {
 }
 
 impl Grant {
+    // No `From`, which would let anyone make a grant.
     pub(crate) fn of(t: Ticket) -> Grant
         ensures { ticket_of result ≡ t }
     {

@@ -77,6 +77,7 @@ impl<G: Guard> Executive<G> {
         }
     }
 
+    // That the guard and the mission's number stay is said of each call, since an invariant sees one value alone.
     fn give(&mut self, r: Reading<G::State>, b: u8) -> Ticket
         requires { (self.old.phase ≡ Phase.Ready r) × (self.old.totals.tick < 1000000) }
         ensures value { result ≡ ticket (G.Guard.meaning self.old.guard) self.old.mission (held self.old) r b }

@@ -1,7 +1,7 @@
 ghost use Rattle.std.specs.Prelude.{◌≡◌, ℕ};
 ghost use Rattle.guard.specs.Refusals.{numbered};
 
-// A refusal has a number in the table of refusals.
+// A refusal has a number in the table of refusals. Each enum casts itself to its number, since a cast has no generic form.
 pub trait Refusal {
     ghost meant: { Self → ℕ };
 

@@ -10,6 +10,7 @@ pub struct Ticket {
     pub mission: u32,
     pub tick: u32,
     pub action: u8,
+    // a number and no `Reason`, since any four numbers can be presented
     pub reason: u8,
 }
 
@@ -58,6 +59,7 @@ pub struct Totals {
     pub losses: u32,
 }
 
+// What a call answers. One enum for calls of all kinds, which a history holds together; each call by itself answers a `Result`.
 // A begin and an observe are accepted without more, a decide with a grant, a spend with the action, a close with the totals.
 #[derive(Clone, Copy, Debug, PartialEq, Eq)]
 pub enum Answer {

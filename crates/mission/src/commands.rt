@@ -48,13 +48,14 @@ impl<R: Room> Room for Above<R> {
     ) -> Result<(), Fault<'a>> {
         match layers {
             [] => T::carry_out(rt, g, job),
-            [word, rest @ ..] => match Layer::read(word) {
-                Ok(Layer::Fence(draft)) => R::stack::<T, _>(rt, draft.seal(g), rest, job),
-                Ok(Layer::Battery(reserve)) => {
-                    R::stack::<T, _>(rt, Battery::new(g, reserve), rest, job)
+            [word, rest @ ..] => {
+                match Layer::read(word).map_err(|why| Fault::Word(why, word))? {
+                    Layer::Fence(draft) => R::stack::<T, _>(rt, draft.seal(g), rest, job),
+                    Layer::Battery(reserve) => {
+                        R::stack::<T, _>(rt, Battery::new(g, reserve), rest, job)
+                    }
                 }
-                Err(why) => Err(Fault::Word(why, word)),
-            },
+            }
         }
     }
 }
@@ -69,10 +70,9 @@ pub fn run<'a, T: Task>(rt: &HostRuntime, words: &'a [String]) -> Result<(), Fau
         return Err(Fault::Usage);
     };
     let job = |kind| Job { kind, given, word };
-    match Machine::read(machine) {
-        Ok(Machine::Cart(cart, _)) => Three::stack::<T, _>(rt, cart, layers, job(Kind::Cart)),
-        Ok(Machine::Drone(drone, _)) => Three::stack::<T, _>(rt, drone, layers, job(Kind::Drone)),
-        Err(why) => Err(Fault::Word(why, machine)),
+    match Machine::read(machine).map_err(|why| Fault::Word(why, machine))? {
+        Machine::Cart(cart, _) => Three::stack::<T, _>(rt, cart, layers, job(Kind::Cart)),
+        Machine::Drone(drone, _) => Three::stack::<T, _>(rt, drone, layers, job(Kind::Drone)),
     }
 }
 
@@ -84,13 +84,11 @@ fn show_from<'a, G: Guard + Copy>(
     n: (i32, i32, i32),
     machine: &'a str,
 ) -> Result<(), Fault<'a>> {
-    match g.state(n) {
-        Ok(state) => {
-            let charge = 1000;
-            demo::demo(rt, kind, g, Reading { state, charge })
-        }
-        Err(refusal) => Err(Fault::Word(Why::NoState(refusal), machine)),
-    }
+    let state = g
+        .state(n)
+        .map_err(|refusal| Fault::Word(Why::NoState(refusal), machine))?;
+    let charge = 1000;
+    demo::demo(rt, kind, g, Reading { state, charge })
 }
 
 // `mission demo MACHINE`: from rest in the middle of the rail, or from the ground in the middle of the hall.
@@ -99,9 +97,8 @@ pub fn show<'a>(rt: &HostRuntime, words: &'a [String]) -> Result<(), Fault<'a>> 
         return Err(Fault::Usage);
     };
     let word = word.as_str();
-    match Machine::read(word) {
-        Ok(Machine::Cart(cart, middle)) => show_from(rt, Kind::Cart, &cart, middle, word),
-        Ok(Machine::Drone(drone, middle)) => show_from(rt, Kind::Drone, &drone, middle, word),
-        Err(why) => Err(Fault::Word(why, word)),
+    match Machine::read(word).map_err(|why| Fault::Word(why, word))? {
+        Machine::Cart(cart, middle) => show_from(rt, Kind::Cart, &cart, middle, word),
+        Machine::Drone(drone, middle) => show_from(rt, Kind::Drone, &drone, middle, word),
     }
 }

@@ -50,10 +50,10 @@ impl Layer {
     {
         match word.split_once(':') {
             Some(("fence", regions)) => Ok(Layer::Fence(draft(regions)?)),
-            Some(("battery", reserve)) => match reserve.parse::<u16>() {
-                Ok(reserve) => Ok(Layer::Battery(reserve)),
-                Err(_) => Err(Why::NotReserve),
-            },
+            Some(("battery", reserve)) => {
+                let reserve = reserve.parse::<u16>().map_err(|_| Why::NotReserve)?;
+                Ok(Layer::Battery(reserve))
+            }
             _ => Err(Why::NoLayer),
         }
     }

@@ -17,13 +17,14 @@ pub struct Job<'a> {
 impl<'a> Job<'a> {
     // The reading at the state that the word names, with the charge given.
     fn reading<G: Guard>(self, g: &G) -> Result<Reading<G::State>, Fault<'a>> {
-        match self.kind.state(g, self.word) {
-            Ok(state) => Ok(Reading {
-                state,
-                charge: self.given.charge,
-            }),
-            Err(why) => Err(Fault::Word(why, self.word)),
-        }
+        let state = self
+            .kind
+            .state(g, self.word)
+            .map_err(|why| Fault::Word(why, self.word))?;
+        Ok(Reading {
+            state,
+            charge: self.given.charge,
+        })
     }
 }
 

@@ -87,7 +87,7 @@ impl Kind {
     }
 }
 
-// A record of a tape or a log.
+// A record of a tape or a log. Reasons and refusals are numbers there, since every byte is allowed.
 #[derive(Clone, Copy, Debug, PartialEq, Eq)]
 pub enum Record {
     Begin {

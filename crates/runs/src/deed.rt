@@ -11,6 +11,7 @@ use guard::reading::Reading;
 use history::calls::{Ticket, Totals};
 use records::record::{Noted, Record};
 
+// No `From`, since neither type is this crate's.
 fn closing(t: Totals) -> Record
     ensures { result ≡ ends t }
 {
@@ -36,7 +37,7 @@ fn switched<G: Guard>(g: &G, stored: Option<Reading<G::State>>, t: Ticket) -> Op
     }
 }
 
-// What the reading's state or the call is refused for comes to an entry only with the record's number.
+// A begin and an observe differ in the call alone; one function of both would take the call as a parameter and be no shorter.
 pub(crate) fn begin<G: Guard>(
     e: &mut Executive<G>,
     n: Noted,

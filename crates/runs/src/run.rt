@@ -92,6 +92,7 @@ fn run_through<G: Guard, W: Witness<G>>(
     ensures { Came (G.Guard.meaning e.old.guard) tape.now log.old result log.new e.old e.new }
 {
     let mut reader = Reader::new(tape);
+    // counted here, since the records' numbers wrap at 32 bits
     let mut place = 0u32;
     let mut written = 0;
     while let Some(due) = next_due(e, &mut reader, place, w) {

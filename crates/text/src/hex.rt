@@ -24,7 +24,7 @@ impl<T: Drop> From<AllocFailed<T>> for HexFault {
     }
 }
 
-// What a byte of a text is.
+// What a byte of a text is; three cases, so neither an `Option` nor a `Result`.
 #[derive(Clone, Copy)]
 enum Glyph {
     Blank,

@@ -17,7 +17,7 @@ pub fn reason(n: u8) -> &'static str
     }
 }
 
-// Why something was refused, by the number of the refusal.
+// Why something was refused, by the number of the refusal, since a record may hold any.
 pub fn refusal(n: u8) -> &'static str
     ensures { result.now ≡ refusal_text n }
 {
