@@ -1,6 +1,6 @@
 ghost use Rattle.std.specs.Prelude.{◌≡◌, ℕ};
 ghost use Rattle.runs.specs.Refusals.{numbered, numbered_record, numbered_run, ending_of};
-ghost use Rattle.runs.specs.declared.refusal.RecordRefusal.TheVariants.{State as OfState, Call as OfCall, Read as OfRead, Tape as OfTape};
+ghost use Rattle.runs.specs.declared.refusal.RecordRefusal.TheVariants.{State as OfState, Call as OfCall};
 
 use guard::refusal::{Refusal, StateRefusal};
 use history::calls::CallRefusal;
@@ -92,21 +92,5 @@ impl From<CallRefusal> for RecordRefusal {
 
     fn from(x: CallRefusal) -> RecordRefusal {
         RecordRefusal::Call(x)
-    }
-}
-
-impl From<ReadRefusal> for RecordRefusal {
-    ghost from_gives = { λ x e. e ≡ OfRead x };
-
-    fn from(x: ReadRefusal) -> RecordRefusal {
-        RecordRefusal::Read(x)
-    }
-}
-
-impl From<TapeRefusal> for RecordRefusal {
-    ghost from_gives = { λ x e. e ≡ OfTape x };
-
-    fn from(x: TapeRefusal) -> RecordRefusal {
-        RecordRefusal::Tape(x)
     }
 }
