@@ -8,6 +8,9 @@ use crate::Guard;
 use crate::fallback::lowest;
 use crate::reading::Reading;
 
+// Guard, reading and action go side by side here: the guard is the caller's and stays, a reading is asked of with each action in
+// turn, so that a struct of them would only be made anew for each question.
+
 // The first gust under which the reading that follows, with the lowest charge, is not recoverable.
 pub fn endangering_gust<G: Guard>(g: &G, r: Reading<G::State>, a: u8) -> Option<u8>
     ensures { FirstDanger (G.Guard.meaning g.now) r a result }

@@ -30,6 +30,7 @@ fn contents(rt: &HostRuntime, word: &str) -> io::Result<Vec<u8>> {
     Ok(bytes)
 }
 
+// No `From`, since the fault names the word beside it.
 fn no_hex<'a>(fault: HexFault, word: &'a str) -> Fault<'a> {
     match fault {
         HexFault::NotDigit(at) => Fault::Digit(at, word),

@@ -30,6 +30,7 @@ fn print(rt: &HostRuntime, found: &Planned) -> io::Result<()> {
 pub fn run<'a>(rt: &HostRuntime, words: &'a [String]) -> Result<(), Fault<'a>> {
     let source = Source::named(words)?;
     let (word, log) = (source.word, source.bytes(rt)?);
+    // no `From` for the errors, since a fault names the word beside them
     match planner_ticks(rt.alloc(), log.as_slice()) {
         Ok(found) => {
             print(rt, &found)?;

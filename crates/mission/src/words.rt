@@ -38,11 +38,8 @@ pub fn numbers<const N: usize>(form: Why, word: &str) -> Result<[i32; N], Why>
 fn gust(count: u8, word: &str) -> Result<u8, Why>
     ensures { IfOk result (λ w. w < count) }
 {
-    match word.parse::<u8>() {
-        Ok(w) if w < count => Ok(w),
-        Ok(_) => Err(Why::NoGust),
-        Err(_) => Err(Why::NotNumbers),
-    }
+    let w = word.parse::<u8>().map_err(|_| Why::NotNumbers)?;
+    if w < count { Ok(w) } else { Err(Why::NoGust) }
 }
 
 // The gusts of a word such as `0,2,1`, each below the count; none of the empty word.

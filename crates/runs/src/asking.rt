@@ -6,7 +6,7 @@ use guard::reading::Reading;
 use guard::refusal::StateRefusal;
 use records::record::Noted;
 
-// A reading by the numbers of its state.
+// A reading by the numbers of its state. No `From`, since the guard names states.
 pub(crate) fn noted<G: Guard>(g: &G, r: Reading<G::State>) -> Noted
     ensures { result ≡ noting (G.Guard.meaning g.now) r }
 {

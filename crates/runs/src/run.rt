@@ -131,6 +131,7 @@ pub fn run_watched<G: Guard, W: Witness<G>>(
     run_through(e, tape, log, w)
 }
 
+// The log is lent and has its size, so what is written of it is a number beside it and no collection that grows.
 // Makes the calls that the records of the tape ask for, in order, and logs what they come to. A grant is spent before its
 // decision is logged. The run ends at the tape's end, at a record that has no place on it, or where the log has no room.
 pub fn run<G: Guard>(e: &mut Executive<G>, tape: &[u8], log: &mut [u8]) -> Ended
