@@ -1,8 +1,7 @@
+use crate::given::reading;
 use cart::Cart;
 use cart::state::CartState;
 use executive::replay::replay;
-use guard::Guard;
-use guard::reading::Reading;
 use guard::refusal::Refusal;
 use history::calls::{Answer, Call, Ticket};
 use std::test::Fail;
@@ -78,14 +77,9 @@ const SCRIPT: [(Asked, Due); 47] = [
     (Asked::Begin(955, 0, 300), Due::Refused(6)),
 ];
 
-fn reading(cart: &Cart, x: i32, v: i32, charge: u16) -> Result<Reading<CartState>, Fail> {
-    let state = cart.state((x, v, 0))?;
-    Ok(Reading { state, charge })
-}
-
 fn call(cart: &Cart, asked: Asked) -> Result<Call<CartState>, Fail> {
     match asked {
-        Asked::Begin(x, v, charge) => Ok(Call::Begin(reading(cart, x, v, charge)?)),
+        Asked::Begin(x, v, charge) => Ok(Call::Begin(reading(cart, (x, v, 0), charge)?)),
         Asked::Decide(b) => Ok(Call::Decide(b)),
         Asked::Spend(mission, tick, action, reason) => Ok(Call::Spend(Ticket {
             mission,
@@ -93,7 +87,7 @@ fn call(cart: &Cart, asked: Asked) -> Result<Call<CartState>, Fail> {
             action,
             reason,
         })),
-        Asked::Observe(x, v, charge) => Ok(Call::Observe(reading(cart, x, v, charge)?)),
+        Asked::Observe(x, v, charge) => Ok(Call::Observe(reading(cart, (x, v, 0), charge)?)),
         Asked::Close => Ok(Call::Close),
     }
 }
