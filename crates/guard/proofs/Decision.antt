@@ -2,6 +2,7 @@
 use Rattle.std.proofs.Common.{◌≡◌, ℕ, ◌<◌, ◌≤◌, Bool, true, false, T, ltb, leb, Some, Decides, sym, refl, ap, ◌∙◌, subst, inl, inr, arith}
 use Rattle.std.proofs.lemmas.Bool.Decides.{Decides-and, Decides-like, Decides-int_eq}
 use Rattle.std.proofs.lemmas.Bool.{and_parts, and_from, and_cases, ltb-true, ltb-false, lt-ltb, le-leb, leb-true}
+pub use Rattle.std.specs.Bool.{passes as true_T}
 use Rattle.guard.specs.declared.reading.Reading.{Reading}
 use Rattle.guard.specs.Bounded.{each, any}
 use Rattle.guard.specs.Meaning.{Meaning, Laws, Follows, Numbers, lowest_charge}
@@ -12,9 +13,6 @@ use Rattle.guard.proofs.Bounded.{each_at, each_all, each_but, any_at, any_some}
 pub T_true : (b : Bool) → T b → b ≡ true
 T_true true t = refl
 T_true false t = absurd t
-
-pub true_T : (b : Bool) → b ≡ true → T b
-true_T b e = rw e tt
 
 -- what an action comes to under a gust, with the most charge drawn, can follow
 pub lowest_follows : {S : Type 0} (m : Meaning S) (r : Reading S) (a w : ℕ) → a < m.actions → w < m.gusts → Follows m r a (lowest m r a w)

@@ -17,6 +17,7 @@ pub struct Region {
     pub high: Point,
 }
 
+#[tactic(auto, unfolding(crate::specs::Regions::between))]
 fn between(low: i32, c: i32, high: i32) -> bool
     ensures { result ≡ lies low c high }
 {

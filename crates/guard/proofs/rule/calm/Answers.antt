@@ -8,7 +8,5 @@ use Rattle.guard.proofs.rule.calm.Goals as goal
 pub returns : goal.returns
 returns g c =
     let m = g.G.Guard.meaning c.args.g.now in
-    let laws = g.met.G.Guard.lawful c.args.g.now in
-    let r = c.args.r in
-    let e : c.each_action_admissible.result ≡ calm m r = told_each c.each_action_admissible.result m.actions (λ a. admissible m r a) c.each_action_admissible.ensures in
-    record { value = e; means = Decides-at _ _ e (decides_calm m laws r) }
+    let e : c.each_action_admissible.result ≡ calm m c.args.r = told_each _ _ (admissible m c.args.r) c.each_action_admissible.ensures in
+    record { value = e; means = Decides-at _ _ e (decides_calm m (g.met.G.Guard.lawful c.args.g.now) _) }

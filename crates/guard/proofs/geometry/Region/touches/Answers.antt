@@ -1,7 +1,6 @@
-use Rattle.std.proofs.Common.{rules}
 use Rattle.std.proofs.lemmas.Bool.Decides.{Decides-at}
 use Rattle.guard.proofs.Regions.{decides_touches}
 use Rattle.guard.proofs.geometry.Region.touches.Goals as goal
 
-pub returns : goal.returns
-returns c = record { value = search rules; means = Decides-at _ _ (search rules) (decides_touches c.args.self.now c.args.other.now) }
+pub returns-clause-means : goal.returns-clause-means
+returns-clause-means c = Decides-at _ _ c.meets.ensures (decides_touches _ _)
