@@ -49,22 +49,6 @@ record Kept {S : Type 0} (m : Meaning S) (h : History S) : Type 0 where
   grants : given h ≡ spent h + one_if (out h)
   turns : won h ≡ lost h + one_if (planner h)
 
-none_some : {S : Type 0} (r : Reading S) → Option.None ≡ Some r → ⊥
-none_some r e = let z : ◌≡◌ {A = ℕ} 0 1 = cc in omega arith
-
--- an answer that is no grant
-refused_granted : (x : CallRefusal) (t : Ticket) → Answer.Refused x ≡ Granted t → ⊥
-refused_granted x t e = let z : ◌≡◌ {A = ℕ} 0 1 = cc in omega arith
-
-accepted_granted : (t : Ticket) → Answer.Accepted ≡ Granted t → ⊥
-accepted_granted t e = let z : ◌≡◌ {A = ℕ} 0 1 = cc in omega arith
-
-spent_granted : (a : ℕ) (t : Ticket) → Answer.Spent a ≡ Granted t → ⊥
-spent_granted a t e = let z : ◌≡◌ {A = ℕ} 0 1 = cc in omega arith
-
-ended_granted : (x : Totals) (t : Ticket) → Answer.Ended x ≡ Granted t → ⊥
-ended_granted x t e = let z : ◌≡◌ {A = ℕ} 0 1 = cc in omega arith
-
 at_reading : {S : Type 0} (P : Reading S → Type 0) (r t : Reading S) → Some r ≡ Some t → P r → P t
 at_reading P r t e p = let d : r ≡ t = cc in subst P d p
 
@@ -94,7 +78,7 @@ module _ {S : Type 0} (m : Meaning S) (laws : Laws m) (mission : ℕ) where
 
   kept_none : Kept m []
   kept_none = record {
-    seen = λ r e. absurd (none_some r e);
+    seen = λ r e. cc;
     since = λ r a e f. absurd f;
     busy = λ r g b e f. absurd b;
     out_is = refl;
@@ -108,7 +92,7 @@ module _ {S : Type 0} (m : Meaning S) (laws : Laws m) (mission : ℕ) where
   kept_more : (h : History S) {c : Call S} {a : Answer} → Told m mission h c a → Kept m h → Kept m (event c a ∷ h)
   kept_more h (turned o) k = record {
     seen = k.seen;
-    since = λ r a e. elim [ inl s ↦ absurd (refused_granted _ s.0 s.1) | inr s ↦ k.since r a e s.1 ];
+    since = λ r a e. elim [ inl s ↦ cc | inr s ↦ k.since r a e s.1 ];
     busy = k.busy;
     out_is = k.out_is;
     grants = k.grants;
@@ -116,7 +100,7 @@ module _ {S : Type 0} (m : Meaning S) (laws : Laws m) (mission : ℕ) where
   }
   kept_more h (begun {r} s e) k = record {
     seen = λ t d. at_reading (λ r. T (m.recoverable r)) r t d (true_T _ e);
-    since = λ t a d. elim [ inl s ↦ absurd (accepted_granted s.0 s.1) | inr s ↦ absurd (s.0 r (refl, inl refl)) ];
+    since = λ t a d. elim [ inl s ↦ cc | inr s ↦ absurd (s.0 r (refl, inl refl)) ];
     busy = λ r g b e f. absurd b;
     out_is = k.out_is ∙ ap outs s;
     grants = k.grants;
@@ -132,7 +116,7 @@ module _ {S : Type 0} (m : Meaning S) (laws : Laws m) (mission : ℕ) where
   }
   kept_more h (done {p} {a} s g i) k = record {
     seen = k.seen;
-    since = λ u a d. elim [ inl s ↦ absurd (spent_granted _ s.0 s.1) | inr s ↦ k.since u a d s.1 ];
+    since = λ u a d. elim [ inl s ↦ cc | inr s ↦ k.since u a d s.1 ];
     busy = λ r g b e f. k.busy r g (subst Busy (sym s) tt) e f;
     out_is = refl;
     grants = spent_more h k.grants (k.out_is ∙ ap outs s);
@@ -140,7 +124,7 @@ module _ {S : Type 0} (m : Meaning S) (laws : Laws m) (mission : ℕ) where
   }
   kept_more h (observed {t} r g s e d i j) k = record {
     seen = λ u n. at_reading (λ r. T (m.recoverable r)) t u n (k.busy r g (subst Busy (sym s) tt) e d t ((decides_follows m laws r g.action t).0 (and_from _ _ i j)));
-    since = λ u a n. elim [ inl s ↦ absurd (accepted_granted s.0 s.1) | inr s ↦ absurd (s.0 t (refl, inr refl)) ];
+    since = λ u a n. elim [ inl s ↦ cc | inr s ↦ absurd (s.0 t (refl, inr refl)) ];
     busy = λ r g b e f. absurd b;
     out_is = k.out_is ∙ ap outs s;
     grants = k.grants;
@@ -148,7 +132,7 @@ module _ {S : Type 0} (m : Meaning S) (laws : Laws m) (mission : ℕ) where
   }
   kept_more h (ended s) k = record {
     seen = k.seen;
-    since = λ r a e. elim [ inl s ↦ absurd (ended_granted _ s.0 s.1) | inr s ↦ k.since r a e s.1 ];
+    since = λ r a e. elim [ inl s ↦ cc | inr s ↦ k.since r a e s.1 ];
     busy = λ r g b e f. absurd b;
     out_is = elim s [ inl s ↦ k.out_is ∙ ap outs s | inr s ↦ k.out_is ∙ ap outs s ];
     grants = k.grants;
@@ -198,14 +182,14 @@ module _ {S : Type 0} (m : Meaning S) (laws : Laws m) (mission : ℕ) where
   gain_when (unknown h) = (λ x. absurd x, λ y. absurd (both_ways true y.0 refl))
   gain_when (rejected h e) = (λ x. absurd x, λ y. absurd (both_ways true y.0 refl))
   gain_when (gained h e) = (λ x. (refl, h, true_T _ e), λ y. tt)
-  gain_when (waited h) = (λ x. absurd x, λ y. elim h [ inl n ↦ let z : ⊥ = omega (arith, y.1) in absurd z | inr n ↦ absurd (both_ways _ n (T_true _ y.2)) ])
+  gain_when (waited h) = (λ x. absurd x, λ y. elim h [ inl n ↦ absurd (omega (arith, y.1)) | inr n ↦ absurd (both_ways _ n (T_true _ y.2)) ])
 
   -- an unrecoverable reading cannot follow under an admissible action
   not_endangered : (r : Reading S) (b : ℕ) → Allowed m r b → Endangers m r b → ⊥
   not_endangered r b k d = both_ways _ d.2 (T_true _ (k d.0 d.1))
 
   loss_when : {r : Reading S} {b : ℕ} {p : Bool} {a q : ℕ} → Chosen m r b p a q → T (eqb q 1 || eqb q 2) ↔ ((p ≡ true) × ((m.actions ≤ b) ⊎ Endangers m r b))
-  loss_when {r} {b} (approved h e) = (λ x. absurd x, λ y. elim y.1 [ inl n ↦ let z : ⊥ = omega arith in absurd z | inr n ↦ absurd (not_endangered r b ((decides_admissible m laws r b).0 e).kept n) ])
+  loss_when {r} {b} (approved h e) = (λ x. absurd x, λ y. elim y.1 [ inl n ↦ absurd (omega arith) | inr n ↦ absurd (not_endangered r b ((decides_admissible m laws r b).0 e).kept n) ])
   loss_when (unknown h) = (λ x. (refl, inl h), λ y. tt)
   loss_when {r} {b} (rejected h e) = (λ x. (refl, inr (endangers m laws r b e h)), λ y. tt)
   loss_when (gained h e) = (λ x. absurd x, λ y. absurd (both_ways false refl y.0))
@@ -215,9 +199,9 @@ module _ {S : Type 0} (m : Meaning S) (laws : Laws m) (mission : ℕ) where
   reasons_when : {r : Reading S} {b : ℕ} {p : Bool} {a q : ℕ} → Chosen m r b p a q → T (eqb q 1 || eqb q 2) → ((q ≡ 1) ↔ (m.actions ≤ b)) × ((q ≡ 2) ↔ Endangers m r b)
   reasons_when (approved h e) x = absurd x
   reasons_when (unknown h) x =
-      ((λ _. h, λ _. refl), (λ n. let z : ⊥ = omega arith in absurd z, λ d. let k = d.1.action in let z : ⊥ = omega arith in absurd z))
+      ((λ _. h, λ _. refl), (λ n. absurd (omega arith), λ d. let k = d.1.action in absurd (omega arith)))
   reasons_when {r} {b} (rejected h e) x =
-      ((λ n. let z : ⊥ = omega arith in absurd z, λ n. let z : ⊥ = omega arith in absurd z), (λ _. endangers m laws r b e h, λ _. refl))
+      ((λ n. absurd (omega arith), λ n. absurd (omega arith)), (λ _. endangers m laws r b e h, λ _. refl))
   reasons_when (gained h e) x = absurd x
   reasons_when (waited h) x = absurd x
 

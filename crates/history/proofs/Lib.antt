@@ -2,4 +2,3 @@ pub mod Tickets
 pub mod Told
 pub mod Found
 pub mod Going
-pub mod Granting
