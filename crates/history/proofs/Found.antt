@@ -1,5 +1,5 @@
 -- The findings hold of every history whose answers are the due ones, for every guard that keeps the laws.
-use Rattle.std.proofs.Common.{◌≡◌, ℕ, ◌+◌, ◌<◌, ◌≤◌, Bool, true, false, cond, ◌||◌, T, eqb, ◌⊎◌, ◌↔◌, [], ◌∷◌, Some, Option, sym, refl, ap, ◌∙◌, subst, inl, inr, arith}
+use Rattle.std.proofs.Common.{◌≡◌, ℕ, ◌+◌, ◌<◌, ◌≤◌, Bool, true, false, cond, ◌||◌, T, eqb, ◌⊎◌, ◌↔◌, [], ◌∷◌, Some, sym, refl, ap, ◌∙◌, subst, inl, inr, arith}
 use Rattle.std.proofs.lemmas.Bool.{and_from, both_ways}
 use Rattle.guard.specs.declared.reading.Reading.{Reading}
 use Rattle.guard.specs.Meaning.{Meaning, Follows, Laws}
@@ -14,7 +14,6 @@ use Rattle.history.specs.declared.calls.Call.{Call}
 use Rattle.history.specs.declared.calls.Call.TheVariants.{Decide, Spend}
 use Rattle.history.specs.declared.calls.Answer.{Answer}
 use Rattle.history.specs.declared.calls.Answer.TheVariants.{Granted, Spent, Ended, Refused}
-use Rattle.history.specs.declared.calls.CallRefusal.{CallRefusal}
 use Rattle.history.specs.declared.calls.CallRefusal.TheVariants.{MissionOver}
 use Rattle.history.proofs.Told.{Chosen, approved, unknown, rejected, gained, waited, Told, turned, begun, decided, done, observed, ended, told}
 
