@@ -1,11 +1,11 @@
 -- The findings hold of every history whose answers are the due ones, for every guard that keeps the laws.
 use Rattle.std.proofs.Common.{◌≡◌, ℕ, ◌+◌, ◌<◌, ◌≤◌, Bool, true, false, cond, ◌||◌, T, eqb, ◌⊎◌, ◌↔◌, [], ◌∷◌, Some, sym, refl, ap, ◌∙◌, subst, inl, inr, arith}
-use Rattle.std.proofs.lemmas.Bool.{and_from, both_ways}
+use Rattle.std.proofs.lemmas.Bool.{and_from}
 use Rattle.guard.specs.declared.reading.Reading.{Reading}
 use Rattle.guard.specs.Meaning.{Meaning, Follows, Laws}
 use Rattle.guard.specs.Decision.{calm, Endangers}
 use Rattle.guard.proofs.Decision.{T_true, true_T, decides_admissible, decides_calm, decides_follows, endangers}
-use Rattle.history.specs.History.{Event, History, Stage, parked, ready, granted, moving, closed, stage, accepted, reads, last, tick, gains, loses, planner, out, grant, given, spent, won, lost}
+use Rattle.history.specs.History.{Event, History, Stage, parked, ready, granted, moving, closed, stage, last, tick, gains, loses, planner, out, grant, given, spent, won, lost}
 use Rattle.history.specs.Due.{due, Right}
 use Rattle.history.specs.Findings.{Throughout, Accepts, GrantedSince, Decided, Sound, Totalled, one_if, Findings}
 use Rattle.history.specs.declared.calls.Ticket.{Ticket}
@@ -53,12 +53,6 @@ at_reading P r t e p = let d : r ≡ t = cc in subst P d p
 
 at_action : (P : ℕ → Type 0) (t u : Ticket) (a : ℕ) → Answer.Granted t ≡ Granted u → u.action ≡ a → P t.action → P a
 at_action P t u a e d p = let f : t.action ≡ a = cc in subst P f p
-
-given_more : {S : Type 0} (h : History S) → given h ≡ spent h + one_if (out h) → out h ≡ false → given h + 1 ≡ spent h + 1
-given_more h e o = let n : one_if (out h) ≡ 0 = ap one_if o in omega arith
-
-spent_more : {S : Type 0} (h : History S) → given h ≡ spent h + one_if (out h) → out h ≡ true → given h ≡ spent h + 1 + 0
-spent_more h e o = let n : one_if (out h) ≡ 1 = ap one_if o in omega arith
 
 turns_more : {S : Type 0} {m : Meaning S} {r : Reading S} {b : ℕ} {p : Bool} {a q : ℕ} (w l : ℕ) → Chosen m r b p a q → w ≡ l + one_if p → cond (eqb q 3) (w + 1) w ≡ cond (eqb q 1 || eqb q 2) (l + 1) l + one_if (cond (eqb q 3) true (cond (eqb q 1 || eqb q 2) false p))
 turns_more w l (approved h e) d = d
@@ -110,19 +104,19 @@ module _ {S : Type 0} (m : Meaning S) (laws : Laws m) (mission : ℕ) where
     since = λ u a d. elim [ inl s ↦ at_action (Allowed m u) t s.0 a s.1 s.2 (allowed h r u e d c k) | inr s ↦ k.since u a d s.1 ];
     busy = λ u g b d f. at_action (Allowed m u) t g g.action (let n : t ≡ g = cc in ap Granted n) refl (allowed h r u e d c k);
     out_is = refl;
-    grants = given_more h k.grants (k.out_is ∙ ap outs s);
+    grants = let n : one_if (out h) ≡ 0 = ap one_if (k.out_is ∙ ap outs s) in omega arith;
     turns = turns_more (won h) (lost h) c k.turns;
   }
   kept_more h (done {p} {a} s g i) k = record {
     seen = k.seen;
     since = λ u a d. elim [ inl s ↦ cc | inr s ↦ k.since u a d s.1 ];
-    busy = λ r g b e f. k.busy r g (subst Busy (sym s) tt) e f;
+    busy = λ r g b e f. k.busy r g (rw s tt) e f;
     out_is = refl;
-    grants = spent_more h k.grants (k.out_is ∙ ap outs s);
+    grants = let n : one_if (out h) ≡ 1 = ap one_if (k.out_is ∙ ap outs s) in omega arith;
     turns = k.turns;
   }
   kept_more h (observed {t} r g s e d i j) k = record {
-    seen = λ u n. at_reading (λ r. T (m.recoverable r)) t u n (k.busy r g (subst Busy (sym s) tt) e d t ((decides_follows m laws r g.action t).0 (and_from _ _ i j)));
+    seen = λ u n. at_reading (λ r. T (m.recoverable r)) t u n (k.busy r g (rw s tt) e d t ((decides_follows m laws r g.action t).0 (and_from _ _ i j)));
     since = λ u a n. elim [ inl s ↦ cc | inr s ↦ absurd (s.0 t (refl, inr refl)) ];
     busy = λ r g b e f. absurd b;
     out_is = k.out_is ∙ ap outs s;
@@ -140,21 +134,17 @@ module _ {S : Type 0} (m : Meaning S) (laws : Laws m) (mission : ℕ) where
 
   kept_all : (h : History S) → Right m mission h → Kept m h
   kept_all [] r = kept_none
-  kept_all (e ∷ h) r = kept_more h (subst (Told m mission h e.call) (sym r.0) (told m mission h e.call)) (kept_all h r.1)
+  kept_all (e ∷ h) r = kept_more h (rw r.0 (told m mission h e.call)) (kept_all h r.1)
 
   sound : (r : Reading S) → T (m.recoverable r) → Sound m r
   sound r h = (laws.safely r h, h)
 
   accepts_last : (e : Event S) (h : History S) (r : Reading S) → Accepts e r → last (e ∷ h) ≡ Some r
-  accepts_last e h r d =
-      subst (λ (a : Answer). cond (accepted a) (reads e.call (last h)) (last h) ≡ Some r) (sym d.0) (elim d.1 [
-        | inl n ↦ subst (λ (c : Call S). reads c (last h) ≡ Some r) (sym n) refl
-        | inr n ↦ subst (λ (c : Call S). reads c (last h) ≡ Some r) (sym n) refl
-      ])
+  accepts_last e h r d = rw d.0 (elim d.1 [ inl n ↦ rw n | inr n ↦ rw n ])
 
   -- what an event of a right history tells, at the call and the answer that it is known to have
   telling : (e : Event S) (h : History S) (c : Call S) (a : Answer) → e.answer ≡ due m mission h e.call → e.call ≡ c → e.answer ≡ a → Told m mission h c a
-  telling e h c a r p q = subst (λ (a : Answer). Told m mission h c a) q (subst (λ (c : Call S). Told m mission h c e.answer) p (subst (Told m mission h e.call) (sym r) (told m mission h e.call)))
+  telling e h c a r p q = rw (← q, ← p, r) (told m mission h e.call)
 
   -- what holds of each event of a right history, by what its due answer tells, holds throughout
   throughout : (P : Event S → History S → Type 0) → ((e : Event S) (h : History S) → Right m mission (e ∷ h) → P e h) → (h : History S) → Right m mission h → Throughout P h
@@ -177,22 +167,22 @@ module _ {S : Type 0} (m : Meaning S) (laws : Laws m) (mission : ℕ) where
   told_over (turned o) = o refl
 
   gain_when : {r : Reading S} {b : ℕ} {p : Bool} {a q : ℕ} → Chosen m r b p a q → T (eqb q 3) ↔ ((p ≡ false) × (b < m.actions) × T (calm m r))
-  gain_when (approved h e) = (λ x. absurd x, λ y. absurd (both_ways true y.0 refl))
-  gain_when (unknown h) = (λ x. absurd x, λ y. absurd (both_ways true y.0 refl))
-  gain_when (rejected h e) = (λ x. absurd x, λ y. absurd (both_ways true y.0 refl))
+  gain_when (approved h e) = (λ x. absurd x, λ y. cc)
+  gain_when (unknown h) = (λ x. absurd x, λ y. cc)
+  gain_when (rejected h e) = (λ x. absurd x, λ y. cc)
   gain_when (gained h e) = (λ x. (refl, h, true_T _ e), λ y. tt)
-  gain_when (waited h) = (λ x. absurd x, λ y. elim h [ inl n ↦ absurd (omega (arith, y.1)) | inr n ↦ absurd (both_ways _ n (T_true _ y.2)) ])
+  gain_when (waited h) = (λ x. absurd x, λ y. elim h [ inl n ↦ absurd (omega (arith, y.1)) | inr n ↦ cc (T_true _ y.2) ])
 
   -- an unrecoverable reading cannot follow under an admissible action
   not_endangered : (r : Reading S) (b : ℕ) → Allowed m r b → Endangers m r b → ⊥
-  not_endangered r b k d = both_ways _ d.2 (T_true _ (k d.0 d.1))
+  not_endangered r b k d = cc (T_true _ (k d.0 d.1))
 
   loss_when : {r : Reading S} {b : ℕ} {p : Bool} {a q : ℕ} → Chosen m r b p a q → T (eqb q 1 || eqb q 2) ↔ ((p ≡ true) × ((m.actions ≤ b) ⊎ Endangers m r b))
   loss_when {r} {b} (approved h e) = (λ x. absurd x, λ y. elim y.1 [ inl n ↦ absurd (omega arith) | inr n ↦ absurd (not_endangered r b ((decides_admissible m laws r b).0 e).kept n) ])
   loss_when (unknown h) = (λ x. (refl, inl h), λ y. tt)
   loss_when {r} {b} (rejected h e) = (λ x. (refl, inr (endangers m laws r b e h)), λ y. tt)
-  loss_when (gained h e) = (λ x. absurd x, λ y. absurd (both_ways false refl y.0))
-  loss_when (waited h) = (λ x. absurd x, λ y. absurd (both_ways false refl y.0))
+  loss_when (gained h e) = (λ x. absurd x, λ y. cc)
+  loss_when (waited h) = (λ x. absurd x, λ y. cc)
 
   -- what is no action leads nowhere
   reasons_when : {r : Reading S} {b : ℕ} {p : Bool} {a q : ℕ} → Chosen m r b p a q → T (eqb q 1 || eqb q 2) → ((q ≡ 1) ↔ (m.actions ≤ b)) × ((q ≡ 2) ↔ Endangers m r b)
@@ -211,15 +201,13 @@ module _ {S : Type 0} (m : Meaning S) (laws : Laws m) (mission : ℕ) where
   -- what is found of each event
 
   gaining_at : (e : Event S) (h : History S) → Right m mission (e ∷ h) → (b : ℕ) (t : Ticket) (r : Reading S) → Decided e h b t r → T (gains e.answer) ↔ ((planner h ≡ false) × (b < m.actions) × T (calm m r))
-  gaining_at e h k b t r d =
-      subst (λ (a : Answer). T (gains a) ↔ ((planner h ≡ false) × (b < m.actions) × T (calm m r))) (sym d.answer_is) (gain_when (choice_at e h b t r k d))
+  gaining_at e h k b t r d = rw d.answer_is (gain_when (choice_at e h b t r k d))
 
   losing_at : (e : Event S) (h : History S) → Right m mission (e ∷ h) → (b : ℕ) (t : Ticket) (r : Reading S) → Decided e h b t r → T (loses e.answer) ↔ ((planner h ≡ true) × ((m.actions ≤ b) ⊎ Endangers m r b))
-  losing_at e h k b t r d =
-      subst (λ (a : Answer). T (loses a) ↔ ((planner h ≡ true) × ((m.actions ≤ b) ⊎ Endangers m r b))) (sym d.answer_is) (loss_when (choice_at e h b t r k d))
+  losing_at e h k b t r d = rw d.answer_is (loss_when (choice_at e h b t r k d))
 
   reasons_at : (e : Event S) (h : History S) → Right m mission (e ∷ h) → (b : ℕ) (t : Ticket) (r : Reading S) → Decided e h b t r → T (loses e.answer) → ((t.reason ≡ 1) ↔ (m.actions ≤ b)) × ((t.reason ≡ 2) ↔ Endangers m r b)
-  reasons_at e h k b t r d l = reasons_when (choice_at e h b t r k d) (subst (λ (a : Answer). T (loses a)) d.answer_is l)
+  reasons_at e h k b t r d l = reasons_when (choice_at e h b t r k d) (rw d.answer_is at l)
 
   closing_at : (e : Event S) (h : History S) → Right m mission (e ∷ h) → (t : Totals) → e.answer ≡ Ended t → Totalled h t
   closing_at e h k t d = told_ended (telling e h e.call (Ended t) k.0 refl d)
