@@ -5,7 +5,7 @@ use Rattle.guard.specs.declared.reading.Reading.{Reading}
 use Rattle.guard.specs.Meaning.{Meaning, Follows, Laws}
 use Rattle.guard.specs.Decision.{calm, Endangers}
 use Rattle.guard.proofs.Decision.{T_true, true_T, decides_admissible, decides_calm, decides_follows, endangers}
-use Rattle.history.specs.History.{Event, History, Stage, parked, ready, granted, moving, closed, stage, last, tick, gains, loses, planner, out, grant, given, spent, won, lost}
+use Rattle.history.specs.History.{Event, History, Stage, parked, ready, granted, moving, closed, stage, last, tick, planner, out, grant, given, spent, won, lost}
 use Rattle.history.specs.Due.{due, Right}
 use Rattle.history.specs.Findings.{Throughout, Accepts, GrantedSince, Decided, Sound, Totalled, one_if, Findings}
 use Rattle.history.specs.declared.calls.Ticket.{Ticket}
@@ -198,44 +198,20 @@ module _ {S : Type 0} (m : Meaning S) (laws : Laws m) (mission : ℕ) where
   choice_at : (e : Event S) (h : History S) (b : ℕ) (t : Ticket) (u : Reading S) → Right m mission (e ∷ h) → Decided e h b t u → Chosen m u b (planner h) t.action t.reason
   choice_at e h b t u r d = told_decided u (telling e h (Decide b) (Granted t) r.0 d.call_is d.answer_is) d.last_is
 
-  -- what is found of each event
-
-  gaining_at : (e : Event S) (h : History S) → Right m mission (e ∷ h) → (b : ℕ) (t : Ticket) (r : Reading S) → Decided e h b t r → T (gains e.answer) ↔ ((planner h ≡ false) × (b < m.actions) × T (calm m r))
-  gaining_at e h k b t r d = rw d.answer_is (gain_when (choice_at e h b t r k d))
-
-  losing_at : (e : Event S) (h : History S) → Right m mission (e ∷ h) → (b : ℕ) (t : Ticket) (r : Reading S) → Decided e h b t r → T (loses e.answer) ↔ ((planner h ≡ true) × ((m.actions ≤ b) ⊎ Endangers m r b))
-  losing_at e h k b t r d = rw d.answer_is (loss_when (choice_at e h b t r k d))
-
-  reasons_at : (e : Event S) (h : History S) → Right m mission (e ∷ h) → (b : ℕ) (t : Ticket) (r : Reading S) → Decided e h b t r → T (loses e.answer) → ((t.reason ≡ 1) ↔ (m.actions ≤ b)) × ((t.reason ≡ 2) ↔ Endangers m r b)
-  reasons_at e h k b t r d l = reasons_when (choice_at e h b t r k d) (rw d.answer_is at l)
-
-  closing_at : (e : Event S) (h : History S) → Right m mission (e ∷ h) → (t : Totals) → e.answer ≡ Ended t → Totalled h t
-  closing_at e h k t d = told_ended (telling e h e.call (Ended t) k.0 refl d)
-
-  stamped_at : (e : Event S) (h : History S) → Right m mission (e ∷ h) → (t : Ticket) → e.answer ≡ Granted t → (t.mission ≡ mission) × (t.tick ≡ tick h)
-  stamped_at e h k t d = let s = told_stamped (telling e h e.call (Granted t) k.0 refl d) in (s.0, s.1)
-
-  spending_at : (e : Event S) (h : History S) → Right m mission (e ∷ h) → (t : Ticket) (a : ℕ) → e.call ≡ Spend t → e.answer ≡ Spent a → (out h ≡ true) × (grant h ≡ Some t) × (a ≡ t.action)
-  spending_at e h k t a c d = let s = told_spent (telling e h (Spend t) (Spent a) k.0 c d) in ((kept_all h k.1).out_is ∙ ap outs s.0, s.1, s.2)
-
-  ending_at : (e : Event S) (h : History S) → Right m mission (e ∷ h) → ((t : Ticket) → e.answer ≡ Granted t → tick h < 1000000) × (e.answer ≡ Refused MissionOver → 1000000 ≤ tick h)
-  ending_at e h k =
-      (λ t d. (told_stamped (telling e h e.call (Granted t) k.0 refl d)).2, λ d. told_over (telling e h e.call (Refused MissionOver) k.0 refl d))
-
   pub found : (h : History S) → Right m mission h → Findings m mission h
   found h r =
       let k : Kept m h = kept_all h r in
       record {
         readings = throughout _ (λ e h r t d. sound t ((kept_all (e ∷ h) r).seen t (accepts_last e h t d))) h r;
         following = λ u a e s t f. sound t (k.since u a e s t f);
-        gaining = throughout _ gaining_at h r;
-        losing = throughout _ losing_at h r;
+        gaining = throughout _ (λ e h k b t r d. rw d.answer_is (gain_when (choice_at e h b t r k d))) h r;
+        losing = throughout _ (λ e h k b t r d. rw d.answer_is (loss_when (choice_at e h b t r k d))) h r;
         calmly = λ r c a t f. (decides_calm m laws r).0 (T_true _ c) a t f;
         grants = k.grants;
         turns = k.turns;
-        closing = throughout _ closing_at h r;
-        stamped = throughout _ stamped_at h r;
-        reasons = throughout _ reasons_at h r;
-        spending = throughout _ spending_at h r;
-        ending = throughout _ ending_at h r;
+        closing = throughout _ (λ e h k t d. told_ended (telling e h e.call (Ended t) k.0 refl d)) h r;
+        stamped = throughout _ (λ e h k t d. let s = told_stamped (telling e h e.call (Granted t) k.0 refl d) in (s.0, s.1)) h r;
+        reasons = throughout _ (λ e h k b t r d l. reasons_when (choice_at e h b t r k d) (rw d.answer_is at l)) h r;
+        spending = throughout _ (λ e h k t a c d. let s = told_spent (telling e h (Spend t) (Spent a) k.0 c d) in ((kept_all h k.1).out_is ∙ ap outs s.0, s.1, s.2)) h r;
+        ending = throughout _ (λ e h k. (λ t d. (told_stamped (telling e h e.call (Granted t) k.0 refl d)).2, λ d. told_over (telling e h e.call (Refused MissionOver) k.0 refl d))) h r;
       }
