@@ -1,5 +1,5 @@
 -- A use as it goes on, call by call, from its start.
-use Rattle.std.proofs.Common.{◌≡◌, ℕ, List, [], ◌∷◌, ◌++◌, sym, refl, ap, ◌∙◌, subst}
+use Rattle.std.proofs.Common.{◌≡◌, ℕ, List, [], ◌∷◌, ◌++◌, refl, ap, ◌∙◌, subst}
 use Rattle.guard.specs.Meaning.{Meaning, Laws}
 use Rattle.history.specs.History.{History}
 use Rattle.history.specs.Due.{due, Right}
@@ -34,24 +34,17 @@ module _ {S : Type 0} (m : Meaning S) (n : ℕ) where
   always l [] r = found m l n [] r
   always l (e ∷ h) r = (found m l n (e ∷ h) r, always l h r.1)
 
-pub going_at : {G S : Type 0} {gs : Ghosts G S} {m : Meaning S} {g : G} {n : ℕ} {cs ds : List (Call S)} {ys zs : List Answer} {e : Executive G S gs} → cs ≡ ds → ys ≡ zs → Going m g n cs ys e → Going m g n ds zs e
-going_at {m} {g} {n} {ds} {ys} {e} r q k = subst (λ zs. Going m g n ds zs e) q (subst (λ ds. Going m g n ds ys e) r k)
-
-pub going_none : {G S : Type 0} {gs : Ghosts G S} (m : Meaning S) (g : G) (n : ℕ) (e : Executive G S gs) → e.guard ≡ g → e.mission ≡ n → Used m n (held e) [] → Going m g n [] [] e
-going_none m g n e guard mission u = record { guard_is = guard; mission_is = mission; answers_are = refl; used = u }
-
 pub going_more : {G S : Type 0} {gs : Ghosts G S} (means : G → Meaning S) (g : G) (n : ℕ) (cs : List (Call S)) (ys : List Answer) (c : Call S) (y : Answer) (d e : Executive G S gs) → Going (means g) g n cs ys d → Took (means d.guard) c y d e → Going (means g) g n (cs ++ c ∷ []) (ys ++ y ∷ []) e
 going_more {G} {S} means g n cs ys c y d e k t =
     let m = means g in
     let u : Took m c y d e = subst (λ q. Took (means q) c y d e) k.guard_is t in
     let h = paired [] cs ys in
-    let w : GoesOn m n (held d) c y (held e) h = subst (λ (i : ℕ). Used m i (held d) h → GoesOn m i (held d) c y (held e) h) k.mission_is (u.history h) k.used in
-    let z : answers_to m n cs ≡ ys = sym k.answers_are in
+    let w : GoesOn m n (held d) c y (held e) h = (rw k.mission_is at (u.history h)) k.used in
     record {
       guard_is = u.guard_is ∙ k.guard_is;
       mission_is = u.mission_is ∙ k.mission_is;
-      answers_are = ap (λ x. ys ++ x ∷ []) w.due_is ∙ subst (λ zs. zs ++ due m n (paired [] cs zs) c ∷ [] ≡ answers_to m n (cs ++ c ∷ [])) z (sym (answers_push m n [] cs c));
-      used = subst (Used m n (held e)) (sym (subst (λ zs. paired [] (cs ++ c ∷ []) (zs ++ y ∷ []) ≡ record { call = c; answer = y } ∷ paired [] cs zs) z (paired_push m n [] cs c y))) w.used;
+      answers_are = rw (answers_push m n [] cs c, ← k.answers_are) (ap (λ x. ys ++ x ∷ []) w.due_is);
+      used = rw (k.answers_are, paired_push m n [] cs c y, ← k.answers_are) w.used;
     }
 
 pub going_all : {G S : Type 0} {gs : Ghosts G S} (m : Meaning S) (g : G) (n : ℕ) (cs : List (Call S)) (ys : List Answer) (e : Executive G S gs) → Laws m → Going m g n cs ys e → Replayed m n cs ys

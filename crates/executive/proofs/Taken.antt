@@ -1,21 +1,14 @@
 -- From the outcome of a call to its promise.
-use Rattle.std.proofs.Common.{◌≡◌, ℕ, Bool, true, false, cond, ltb, sym, subst}
-use Rattle.guard.specs.Meaning.{Meaning, Laws}
+use Rattle.std.proofs.Common.{ℕ, Bool, true, false, cond, ltb}
+use Rattle.guard.specs.Meaning.{Meaning}
 use Rattle.guard.specs.Decision.{state_follows, charge_follows}
-use Rattle.history.specs.History.{History}
 use Rattle.history.specs.Due.{same_ticket}
-use Rattle.history.specs.Outcome.{Held, Outcome, outcome, at}
-use Rattle.history.specs.Use.{Used, GoesOn}
+use Rattle.history.specs.Outcome.{Held, Outcome, at}
 use Rattle.history.specs.declared.calls.Call.{Call}
 use Rattle.history.specs.declared.calls.Call.TheVariants.{Begin, Decide, Spend, Observe, Close}
-use Rattle.history.specs.declared.calls.Answer.{Answer}
 use Rattle.history.specs.declared.phase.Phase.{Phase}
 use Rattle.history.specs.declared.phase.Phase.TheVariants.{Parked, Ready, Granted, Moving, Closed}
-use Rattle.history.proofs.Going.{goes_on}
-use Rattle.executive.specs.Holding.{held}
 use Rattle.executive.specs.Took.{Own}
-use Rattle.guard.specs.declared.Guard.{Ghosts}
-use Rattle.executive.specs.declared.held.Executive.{Executive}
 
 -- one of two outcomes, whose answers the call can both have
 own_either : {S : Type 0} (c : Call S) (b : Bool) (x y : Outcome S) → Own c x.answer → Own c y.answer → Own c (cond b x y).answer
@@ -23,7 +16,7 @@ own_either c true x y h k = h
 own_either c false x y h k = k
 
 module _ {S : Type 0} (m : Meaning S) (mission : ℕ) (e : Held S) where
-  own_at : (p : Phase S) (c : Call S) → Own c (at m mission e p c).answer
+  pub own_at : (p : Phase S) (c : Call S) → Own c (at m mission e p c).answer
   own_at Parked (Begin r) = own_either (Begin r) (m.recoverable r) _ _ tt tt
   own_at Parked (Decide b) = tt
   own_at Parked (Spend t) = tt
@@ -49,12 +42,3 @@ module _ {S : Type 0} (m : Meaning S) (mission : ℕ) (e : Held S) where
   own_at Closed (Spend t) = tt
   own_at Closed (Observe t) = tt
   own_at Closed Close = tt
-
-pub own_answer : {S : Type 0} (m : Meaning S) (mission : ℕ) (e : Held S) (c : Call S) (a : Answer) → a ≡ (outcome m mission e c).answer → Own c a
-own_answer m mission e c a d = subst (Own c) (sym d) (own_at m mission e e.phase c)
-
-pub goes_on_so : {G S : Type 0} {gs : Ghosts G S} (m : Meaning S) → Laws m → (c : Call S) (a : Answer) (d e : Executive G S gs) → a ≡ (outcome m d.mission (held d) c).answer → held e ≡ (outcome m d.mission (held d) c).held → (h : History S) → Used m d.mission (held d) h → GoesOn m d.mission (held d) c a (held e) h
-goes_on_so m laws c a d e p q h u =
-    subst (λ (a : Answer). GoesOn m d.mission (held d) c a (held e) h) (sym p)
-    (subst (λ (k : Held _). GoesOn m d.mission (held d) c (outcome m d.mission (held d) c).answer k h) (sym q)
-    (goes_on m d.mission (held d) h u laws c))

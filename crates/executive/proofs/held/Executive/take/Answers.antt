@@ -1,5 +1,6 @@
 use Rattle.executive.specs.Holding.{held}
-use Rattle.executive.proofs.Taken.{own_answer, goes_on_so}
+use Rattle.history.proofs.Going.{goes_on}
+use Rattle.executive.proofs.Taken.{own_at}
 use Rattle.executive.proofs.held.Executive.take.Goals as goal
 
 pub returns : goal.returns
@@ -14,7 +15,7 @@ returns g c =
         guard_is = s.guard;
         mission_is = s.mission;
         unaltered = s.unaltered;
-        history = goes_on_so m (g.met.G.Guard.lawful d.guard) c.args.call c.step.result d c.step.new.self s.value s.held;
+        history = λ h u. rw (s.value, s.held) (goes_on m d.mission (held d) h u (g.met.G.Guard.lawful d.guard) c.args.call);
       };
-      own = own_answer m d.mission (held d) c.args.call c.step.result s.value;
+      own = rw s.value (own_at m d.mission (held d) d.phase c.args.call);
     }
