@@ -7,7 +7,7 @@ pub mod guarding;
 pub mod state;
 
 // A cart on a rail that runs from 0 to its length, which is from 1 to 100,000.
-#[derive(Clone, Copy)]
+#[derive(Clone, Copy, Debug, PartialEq, Eq)]
 pub struct Cart {
     length: i32,
     ghost long: { pos 1 ≤ℤ length },

@@ -3,7 +3,7 @@ ghost use Rattle.std.specs.Prelude.{◌≤◌, unsigned_abs};
 pub(crate) mod moves;
 
 // Where a cart is on its axis, from −1,000,000 to 1,000,000, and how far it moves in a tick, from −40 to 40.
-#[derive(Clone, Copy)]
+#[derive(Clone, Copy, Debug, PartialEq, Eq)]
 pub struct CartState {
     x: i32,
     v: i32,

@@ -1,7 +1,6 @@
 use cart::Cart;
 use executive::held::Executive;
 use runs::run::run;
-use std::alloc::Global;
 use std::process::Abort;
 use std::test::Fail;
 use text::hex;
@@ -26,17 +25,16 @@ fn holds(rt: &impl Abort, log: &[u8], due: &[u8]) {
 
 // A run of the tape into a log of so many bytes ends with the number, and has logged this; all in hexadecimal text.
 pub fn runs_to(
-    rt: &impl Abort,
-    heap: Global,
+    rt: &(impl Abort + AllocGlobal),
     e: &mut Executive<Cart>,
     tape: &[u8],
     size: usize,
     number: u8,
     due: &[u8],
 ) -> Result<(), Fail> {
-    let tape = hex::bytes(heap, tape)?;
-    let due = hex::bytes(heap, due)?;
-    let mut log = vec![in heap; UNUSED; size]?;
+    let tape = hex::bytes(rt.alloc(), tape)?;
+    let due = hex::bytes(rt.alloc(), due)?;
+    let mut log = vec![in rt.alloc(); UNUSED; size]?;
     let ended = run(e, tape.as_slice(), log.as_mut_slice());
     assert_eq!(rt; ended.number(), number);
     assert_eq!(rt; ended.written, due.len());

@@ -21,9 +21,9 @@ const WHOLE: &[u8] = b"4D4C05 00000000 03 F4010000 00000000 00000000 C800
 #[test]
 fn whole_log(rt: HostRuntime) -> Result<(), Fail> {
     let mut e = executive()?;
-    runs_to(&rt, rt.alloc(), &mut e, TAPE, 53, 0, WHOLE)?;
+    runs_to(&rt, &mut e, TAPE, 53, 0, WHOLE)?;
     let mut e = executive()?;
-    runs_to(&rt, rt.alloc(), &mut e, TAPE, 60, 0, WHOLE)
+    runs_to(&rt, &mut e, TAPE, 60, 0, WHOLE)
 }
 
 // The switch needs 22 bytes, the refusal 8 and the closing 23. The call has been made where its record finds no room.
@@ -32,13 +32,13 @@ fn log_too_short_at_every_byte(rt: HostRuntime) -> Result<(), Fail> {
     for size in 0..53usize {
         let mut e = executive()?;
         if size < 22 {
-            runs_to(&rt, rt.alloc(), &mut e, TAPE, size, 16, b"")?;
+            runs_to(&rt, &mut e, TAPE, size, 16, b"")?;
             assert!(rt; matches!(e.phase(), Phase::Moving(_, 6)));
         } else if size < 30 {
-            runs_to(&rt, rt.alloc(), &mut e, TAPE, size, 16, SWITCH)?;
+            runs_to(&rt, &mut e, TAPE, size, 16, SWITCH)?;
             assert!(rt; matches!(e.phase(), Phase::Moving(_, 6)));
         } else {
-            runs_to(&rt, rt.alloc(), &mut e, TAPE, size, 16, SWITCH_AND_REFUSAL)?;
+            runs_to(&rt, &mut e, TAPE, size, 16, SWITCH_AND_REFUSAL)?;
             assert!(rt; matches!(e.phase(), Phase::Closed));
         }
     }

@@ -3,7 +3,7 @@ ghost use Rattle.std.specs.Prelude.{◌≤◌, unsigned_abs};
 pub(crate) mod moves;
 
 // The cell of a drone: x and y from −1,000 to 1,000, and the height z from 0 to 1,000.
-#[derive(Clone, Copy)]
+#[derive(Clone, Copy, Debug, PartialEq, Eq)]
 pub struct DroneState {
     x: i32,
     y: i32,

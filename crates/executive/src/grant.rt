@@ -8,6 +8,7 @@ pub struct Grant {
     mission: u32,
     tick: u32,
     action: u8,
+    // four plain numbers, as they are presented again
     reason: u8,
 }
 

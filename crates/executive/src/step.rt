@@ -18,7 +18,7 @@ use history::phase::Phase;
 const MOST_TICKS: u32 = 1_000_000;
 
 // The action to grant and the reason for it.
-#[derive(Clone, Copy)]
+#[derive(Clone, Copy, Debug, PartialEq, Eq)]
 struct Choice {
     action: u8,
     reason: Reason,
@@ -77,11 +77,12 @@ impl<G: Guard> Executive<G> {
         }
     }
 
-    // That the guard and the mission's number stay is said of each call, since an invariant sees one value alone.
     fn give(&mut self, r: Reading<G::State>, b: u8) -> Ticket
         requires { (self.old.phase ≡ Phase.Ready r) × (self.old.totals.tick < 1000000) }
         ensures value { result ≡ ticket (G.Guard.meaning self.old.guard) self.old.mission (held self.old) r b }
         ensures held { held self.new ≡ after_giving (held self.old) r result }
+
+        // said of each function that changes an executive, since an invariant sees one value alone
         ensures guard { self.new.guard ≡ self.old.guard }
         ensures mission { self.new.mission ≡ self.old.mission }
     {
@@ -113,6 +114,8 @@ impl<G: Guard> Executive<G> {
     pub(crate) fn step(&mut self, call: Call<G::State>) -> Answer
         ensures value { result ≡ (outcome (G.Guard.meaning self.old.guard) self.old.mission (held self.old) call).answer }
         ensures held { held self.new ≡ (outcome (G.Guard.meaning self.old.guard) self.old.mission (held self.old) call).held }
+
+        // as in `give`
         ensures guard { self.new.guard ≡ self.old.guard }
         ensures mission { self.new.mission ≡ self.old.mission }
         ensures unaltered { Unaltered result self.old self.new }

@@ -1,7 +1,7 @@
 ghost use Rattle.std.specs.Prelude.{◌≡◌, ℕ};
 ghost use Rattle.guard.specs.Refusals.{numbered};
 
-// A refusal has a number in the table of refusals. Each enum casts itself to its number, since a cast has no generic form.
+// A refusal has a number in the table of refusals.
 pub trait Refusal {
     ghost meant: { Self → ℕ };
 
@@ -19,6 +19,7 @@ impl Refusal for StateRefusal {
     ghost meant = { numbered };
 
     fn number(&self) -> u8 {
+        // a cast has no generic form
         *self as u8
     }
 }

@@ -8,13 +8,13 @@ use crate::Guard;
 use crate::fallback::lowest;
 use crate::reading::Reading;
 
-// Guard, reading and action go side by side here: the guard is the caller's and stays, a reading is asked of with each action in
-// turn, so that a struct of them would only be made anew for each question.
+// Guard, reading and action are no struct: each action is asked of at the same reading, so one would be made anew for each question.
 
 // The first gust under which the reading that follows, with the lowest charge, is not recoverable.
 pub fn endangering_gust<G: Guard>(g: &G, r: Reading<G::State>, a: u8) -> Option<u8>
     ensures { FirstDanger (G.Guard.meaning g.now) r a result }
 {
+    // over the numbers of the gusts, written out as the rule is read
     for w in 0..g.gust_count() {
         if !g.recoverable(lowest(g, r, a, w)) {
             return Some(w);
@@ -41,6 +41,7 @@ pub fn admissible<G: Guard>(g: &G, r: Reading<G::State>, a: u8) -> bool
 fn each_action_admissible<G: Guard>(g: &G, r: Reading<G::State>) -> bool
     ensures { TellsEach result (G.Guard.meaning g.now).actions (λ a. admitted (G.Guard.meaning g.now) r a) }
 {
+    // over the numbers of the actions, written out as the rule is read
     for a in 0..g.action_count() {
         if !admissible(g, r, a) {
             return false;

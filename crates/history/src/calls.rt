@@ -45,6 +45,7 @@ impl Refusal for CallRefusal {
     ghost meant = { numbered };
 
     fn number(&self) -> u8 {
+        // a cast has no generic form
         *self as u8
     }
 }
@@ -59,7 +60,7 @@ pub struct Totals {
     pub losses: u32,
 }
 
-// What a call answers. One enum for calls of all kinds, which a history holds together; each call by itself answers a `Result`.
+// What a call answers. No `Result`, since every definition over a history would take it apart twice; each call by itself answers one.
 // A begin and an observe are accepted without more, a decide with a grant, a spend with the action, a close with the totals.
 #[derive(Clone, Copy, Debug, PartialEq, Eq)]
 pub enum Answer {

@@ -1,4 +1,5 @@
 ghost use Rattle.std.specs.Prelude.{◌≡◌, ◌+◌, ◌*◌, nat_le};
+ghost use Rattle.guard.specs.Meaning.{Laws};
 ghost use Rattle.layers.specs.Battery.{charge_left, charge_left_at_rest, reserved};
 ghost use Rattle.layers.specs.Reserved.{reserve_kept};
 
@@ -22,6 +23,7 @@ impl<G: Guard> Battery<G> {
         ensures below { result.below ≡ below }
         ensures reserve { result.layer.charge ≡ reserve }
         ensures meaning { ⟦<Battery<G> as Guard>⟧.meaning result ≡ reserved reserve (G.Guard.meaning below) }
+        ensures laws { Laws (reserved reserve (G.Guard.meaning below)) }
     {
         Layered::over(below, Reserve { charge: reserve })
     }

@@ -1,4 +1,5 @@
 ghost use Rattle.std.specs.Prelude.{◌≡◌};
+ghost use Rattle.guard.specs.Meaning.{Laws};
 ghost use Rattle.layers.specs.Drafts.{drafted};
 ghost use Rattle.layers.specs.Fence.{placed_outside, covers_clear, fenced};
 ghost use Rattle.layers.specs.Fenced.{fence_kept};
@@ -18,6 +19,7 @@ impl Draft {
         ensures below { result.below ≡ below }
         ensures regions { drafted result.layer ≡ drafted self }
         ensures meaning { ⟦<Fence<G> as Guard>⟧.meaning result ≡ fenced (drafted self) (G.Guard.meaning below) }
+        ensures laws { Laws (fenced (drafted self) (G.Guard.meaning below)) }
     {
         Layered::over(below, self)
     }

@@ -16,6 +16,7 @@ impl Refusal for MakingRefusal {
     ghost meant = { numbered };
 
     fn number(&self) -> u8 {
+        // a cast has no generic form
         *self as u8
     }
 }

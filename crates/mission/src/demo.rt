@@ -34,7 +34,7 @@ const PLAN: [(u8, u8); 24] = [
     (4, 1),
 ];
 
-// The reason of a grant in words, by its number, as the grant has it.
+// The reason of a grant, by its number, as the grant has it, in words that are shorter than those of records.
 fn why(reason: u8) -> &'static str {
     match Reason::try_from(reason) {
         Ok(Reason::NoAction) => "no action was proposed, control goes to the keeper",

@@ -21,7 +21,8 @@ pub struct Source<'a> {
     pub word: &'a str,
 }
 
-fn contents(rt: &HostRuntime, word: &str) -> io::Result<Vec<u8>> {
+// The bytes as they are.
+pub fn contents(rt: &HostRuntime, word: &str) -> io::Result<Vec<u8>> {
     if word != "-" {
         return fs::read(rt, word);
     }

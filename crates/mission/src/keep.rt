@@ -13,7 +13,7 @@ fn print(rt: &HostRuntime, found: &Planned) -> io::Result<()> {
     for ticks in found.ranges.as_slice() {
         let (first, last) = (ticks.first, ticks.end.saturating_sub(1));
         writeln!(out, "{first} to {last}")?;
-        total = total.saturating_add(u64::from(ticks.end.saturating_sub(first)));
+        total = total.saturating_add(u64::from(ticks.len()));
     }
     match found.open {
         Some(first) => {

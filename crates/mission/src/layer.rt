@@ -50,10 +50,10 @@ impl Layer {
     {
         match word.split_once(':') {
             Some(("fence", regions)) => Ok(Layer::Fence(draft(regions)?)),
-            Some(("battery", reserve)) => {
-                let reserve = reserve.parse::<u16>().map_err(|_| Why::NotReserve)?;
-                Ok(Layer::Battery(reserve))
-            }
+            Some(("battery", reserve)) => Ok(Layer::Battery(words::parsed::<u16>(
+                reserve,
+                Why::NotReserve,
+            )?)),
             _ => Err(Why::NoLayer),
         }
     }

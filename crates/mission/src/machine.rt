@@ -97,6 +97,7 @@ pub struct Shown {
     numbers: (i32, i32, i32),
 }
 
+// No struct of kind and guard: a guard is asked of much and its kind is only shown here.
 impl Shown {
     // The state of the reading.
     pub fn new<G: Guard>(kind: Kind, g: &G, r: Reading<G::State>) -> Shown

@@ -60,11 +60,11 @@ impl<'a> Options<'a> {
                 ..self
             }),
             "--mission" => Ok(Options {
-                mission: value.parse::<u32>().map_err(|_| Why::NotMission)?,
+                mission: words::parsed::<u32>(value, Why::NotMission)?,
                 ..self
             }),
             "--log-size" => Ok(Options {
-                log_size: Some(value.parse::<usize>().map_err(|_| Why::NotSize)?),
+                log_size: Some(words::parsed::<usize>(value, Why::NotSize)?),
                 ..self
             }),
             // the empty word names no file

@@ -21,16 +21,11 @@ fn room(tape: usize) -> usize
     (tape / 3 + 1).saturating_mul(23)
 }
 
-// Why the first record that cannot be read is refused, if there is one.
-fn misread(tape: &[u8]) -> Option<ReadRefusal> {
+// Reads the whole tape, up to the first record that cannot be read.
+fn read_all(tape: &[u8]) -> Result<(), ReadRefusal> {
     let mut reader = Reader::new(tape);
-    loop {
-        match reader.next() {
-            Ok(Some(_)) => {}
-            Ok(None) => return None,
-            Err(refusal) => return Some(refusal),
-        }
-    }
+    while reader.next()?.is_some() {}
+    Ok(())
 }
 
 // Runs the tape and prints what comes of each record, and the log.
@@ -45,7 +40,7 @@ fn run_telling<'a, G: Guard>(
     // a run does not tell of a record that cannot be read, and where the log has no room for its refusal, not even why
     let unread = match ended.refusal {
         Some(RunRefusal::Read(x)) => Some(x),
-        Some(RunRefusal::Write(_)) if teller.due() == ended.written => misread(tape),
+        Some(RunRefusal::Write(_)) if teller.due() == ended.written => read_all(tape).err(),
         _ => None,
     };
     if let Some(refusal) = unread {

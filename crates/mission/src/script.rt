@@ -10,43 +10,51 @@ use std::{fmt, io};
 // What a line of a script asks: a call, or one with numbers that no state has, which does not reach the executive.
 type Entry<S> = Result<Call<S>, StateRefusal>;
 
-// A line that is no call.
+// Why a line is not a call that reaches the executive.
 #[derive(Clone, Copy, Debug, PartialEq, Eq)]
-struct NotCall;
+enum Unasked {
+    NotCall,
+    NoState(StateRefusal),
+}
 
-// The numbers that follow a call's name, just as many as are asked for.
-fn numbers<const N: usize>(words: &str) -> Result<[i64; N], NotCall> {
+impl From<StateRefusal> for Unasked {
+    fn from(x: StateRefusal) -> Unasked {
+        Unasked::NoState(x)
+    }
+}
+
+// The numbers that follow a call's name, just as many as are asked for. The same as `words::numbers` but for separator, type and
+// errors: a function of both would take all three.
+fn numbers<const N: usize>(words: &str) -> Result<[i64; N], Unasked> {
     let mut words = words.split_whitespace();
     let mut n = [0; N];
     for x in &mut n {
-        let word = words.next().ok_or(NotCall)?;
-        *x = word.parse::<i64>().map_err(|_| NotCall)?;
+        let word = words.next().ok_or(Unasked::NotCall)?;
+        *x = word.parse::<i64>().map_err(|_| Unasked::NotCall)?;
     }
     match words.next() {
-        Some(_) => Err(NotCall),
+        Some(_) => Err(Unasked::NotCall),
         None => Ok(n),
     }
 }
 
 // A number of a narrower type.
-fn narrow<T: TryFrom<i64>>(x: i64) -> Result<T, NotCall>
+fn narrow<T: TryFrom<i64>>(x: i64) -> Result<T, Unasked>
 where
     T::Error: Drop,
 {
-    T::try_from(x).map_err(|_| NotCall)
+    T::try_from(x).map_err(|_| Unasked::NotCall)
 }
 
-fn reading<G: Guard>(
-    g: &G,
-    words: &str,
-) -> Result<Result<Reading<G::State>, StateRefusal>, NotCall> {
+fn reading<G: Guard>(g: &G, words: &str) -> Result<Reading<G::State>, Unasked> {
     let [x, y, z, charge] = numbers::<4>(words)?;
     let charge = narrow::<u16>(charge)?;
     let n = (narrow::<i32>(x)?, narrow::<i32>(y)?, narrow::<i32>(z)?);
-    Ok(g.state(n).map(|state| Reading { state, charge }))
+    let state = g.state(n)?;
+    Ok(Reading { state, charge })
 }
 
-fn ticket(words: &str) -> Result<Ticket, NotCall> {
+fn ticket(words: &str) -> Result<Ticket, Unasked> {
     let [mission, tick, action, reason] = numbers::<4>(words)?;
     Ok(Ticket {
         mission: narrow::<u32>(mission)?,
@@ -57,20 +65,20 @@ fn ticket(words: &str) -> Result<Ticket, NotCall> {
 }
 
 // A call by its name and what follows it.
-fn asked<G: Guard>(g: &G, name: &str, words: &str) -> Result<Entry<G::State>, NotCall> {
+fn asked<G: Guard>(g: &G, name: &str, words: &str) -> Result<Call<G::State>, Unasked> {
     match name {
-        "begin" => Ok(reading(g, words)?.map(Call::Begin)),
-        "observe" => Ok(reading(g, words)?.map(Call::Observe)),
+        "begin" => Ok(Call::Begin(reading(g, words)?)),
+        "observe" => Ok(Call::Observe(reading(g, words)?)),
         "decide" => {
             let [proposal] = numbers::<1>(words)?;
-            Ok(Ok(Call::Decide(narrow::<u8>(proposal)?)))
+            Ok(Call::Decide(narrow::<u8>(proposal)?))
         }
-        "spend" => Ok(Ok(Call::Spend(ticket(words)?))),
+        "spend" => Ok(Call::Spend(ticket(words)?)),
         "close" => {
             let [] = numbers::<0>(words)?;
-            Ok(Ok(Call::Close))
+            Ok(Call::Close)
         }
-        _ => Err(NotCall),
+        _ => Err(Unasked::NotCall),
     }
 }
 
@@ -129,14 +137,9 @@ fn tell<S: Copy>(rt: &HostRuntime, entries: &[Entry<S>], answers: &[Answer]) -> 
 
 // A line without its comment and the blanks around it, as the call's name and what follows it.
 fn cut(line: &str) -> (&str, &str) {
-    let code = match line.split_once('#') {
-        Some((code, _)) => code.trim(),
-        None => line.trim(),
-    };
-    match code.split_once(' ') {
-        Some((name, words)) => (name, words),
-        None => (code, ""),
-    }
+    let (code, _) = line.split_once('#').unwrap_or((line, ""));
+    let code = code.trim();
+    code.split_once(' ').unwrap_or((code, ""))
 }
 
 // Makes the calls of a script, one a line, and prints their answers.
@@ -152,7 +155,11 @@ pub fn run<'a, G: Guard + Drop>(
         if name.is_empty() {
             continue;
         }
-        entries.push(asked(&g, name, words).map_err(|_| Fault::Line(i))?)?;
+        match asked(&g, name, words) {
+            Ok(call) => entries.push(Ok(call))?,
+            Err(Unasked::NoState(refusal)) => entries.push(Err(refusal))?,
+            Err(Unasked::NotCall) => return Err(Fault::Line(i)),
+        }
     }
     let calls = calls(rt.alloc(), entries.as_slice())?;
     let answers = replay(rt.alloc(), g, mission, calls.as_slice())?;

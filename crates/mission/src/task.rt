@@ -1,10 +1,9 @@
 use crate::fault::{Fault, Why};
 use crate::machine::Kind;
 use crate::options::Options;
-use crate::{brake, judge, running, script, words};
+use crate::{brake, input, judge, running, script, words};
 use guard::Guard;
 use guard::reading::Reading;
-use std::{fs, io};
 
 // What a task is about, beside its guard: the machine's kind, the options, and the last word of the command.
 #[derive(Clone, Copy)]
@@ -85,15 +84,6 @@ impl Task for Judge {
     }
 }
 
-// The text of a file, or of standard input where the word is `-`.
-fn text(rt: &HostRuntime, word: &str) -> io::Result<String> {
-    if word == "-" {
-        io::read_to_string(rt.alloc(), rt.stdin())
-    } else {
-        fs::read_to_string(rt, word)
-    }
-}
-
 impl Task for Calls {
     fn takes(option: &str) -> bool {
         option == "--mission"
@@ -104,7 +94,8 @@ impl Task for Calls {
         g: G,
         job: Job<'a>,
     ) -> Result<(), Fault<'a>> {
-        let text = text(rt, job.word).map_err(|_| Fault::Word(Why::NoFile, job.word))?;
+        let bytes = input::contents(rt, job.word).map_err(|_| Fault::Word(Why::NoFile, job.word))?;
+        let text = String::from_utf8(bytes).map_err(|_| Fault::Word(Why::NoFile, job.word))?;
         script::run(rt, g, job.given.mission, text.as_str())
     }
 }

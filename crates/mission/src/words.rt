@@ -4,17 +4,27 @@ ghost use Rattle.std.specs.List.{AllByRecursion};
 
 use crate::fault::{Fault, Why};
 use std::alloc::Global;
+use std::str::FromStr;
+
+// The value of a word, or what is wrong with the word.
+pub fn parsed<T: FromStr>(word: &str, why: Why) -> Result<T, Why>
+where
+    T::Err: Drop,
+    ensures { IfErr result (λ e. e ≡ why) }
+{
+    word.parse::<T>().map_err(|_| why)
+}
 
 pub fn number(word: &str) -> Result<i32, Why>
     ensures { IfErr result (λ e. e ≡ NotNumbers) }
 {
-    word.parse::<i32>().map_err(|_| Why::NotNumbers)
+    parsed::<i32>(word, Why::NotNumbers)
 }
 
 pub fn charge(word: &str) -> Result<u16, Why>
     ensures { IfErr result (λ e. e ≡ NotCharge) }
 {
-    word.parse::<u16>().map_err(|_| Why::NotCharge)
+    parsed::<u16>(word, Why::NotCharge)
 }
 
 // The numbers of a word such as `900,20`, just as many as are asked for.
@@ -24,10 +34,7 @@ pub fn numbers<const N: usize>(form: Why, word: &str) -> Result<[i32; N], Why>
     let mut parts = word.split(',');
     let mut n = [0; N];
     for x in &mut n {
-        *x = match parts.next() {
-            Some(part) => number(part)?,
-            None => return Err(form),
-        };
+        *x = number(parts.next().ok_or(form)?)?;
     }
     match parts.next() {
         Some(_) => Err(form),
@@ -38,7 +45,7 @@ pub fn numbers<const N: usize>(form: Why, word: &str) -> Result<[i32; N], Why>
 fn gust(count: u8, word: &str) -> Result<u8, Why>
     ensures { IfOk result (λ w. w < count) }
 {
-    let w = word.parse::<u8>().map_err(|_| Why::NotNumbers)?;
+    let w = parsed::<u8>(word, Why::NotNumbers)?;
     if w < count { Ok(w) } else { Err(Why::NoGust) }
 }
 

@@ -18,6 +18,7 @@ impl Refusal for ReadRefusal {
     ghost meant = { numbered_read };
 
     fn number(&self) -> u8 {
+        // a cast has no generic form
         *self as u8
     }
 }
@@ -33,6 +34,7 @@ impl Refusal for WriteRefusal {
     ghost meant = { numbered_write };
 
     fn number(&self) -> u8 {
+        // a cast has no generic form
         *self as u8
     }
 }

@@ -6,7 +6,7 @@ use guard::refusal::Refusal;
 use records::record::Record;
 
 // What is due of a record of a tape: what is to be logged, and the refusal that ends the run with it, if one does.
-#[derive(Clone, Copy)]
+#[derive(Clone, Copy, Debug, PartialEq, Eq)]
 pub(crate) struct Due {
     pub(crate) entry: Option<Record>,
     pub(crate) ending: Option<RunRefusal>,

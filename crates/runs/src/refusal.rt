@@ -17,6 +17,7 @@ impl Refusal for TapeRefusal {
     ghost meant = { numbered };
 
     fn number(&self) -> u8 {
+        // a cast has no generic form
         *self as u8
     }
 }

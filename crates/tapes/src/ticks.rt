@@ -4,7 +4,6 @@ use keeping::scan::planner_ticks;
 use records::record::Record;
 use records::refusal::ReadRefusal;
 use records::writer::write;
-use std::alloc::Global;
 use std::process::Abort;
 use std::test::Fail;
 
@@ -36,15 +35,14 @@ fn write_all(log: &mut [u8], records: &[Record]) -> Result<usize, Fail> {
 
 // A log of these records has exactly these ranges, by their first ticks and their ends, and this open one.
 fn found(
-    rt: &impl Abort,
-    heap: Global,
+    rt: &(impl Abort + AllocGlobal),
     records: &[Record],
     ranges: &[(u32, u32)],
     open: Option<u32>,
 ) -> Result<(), Fail> {
     let mut log = [0; 256];
     let end = write_all(&mut log, records)?;
-    let planned = planner_ticks(heap, &log[..end.min(256)])?;
+    let planned = planner_ticks(rt.alloc(), &log[..end.min(256)])?;
     assert_eq!(rt; planned.open, open);
     assert_eq!(rt; planned.ranges.len(), ranges.len());
     for (ticks, (first, end)) in planned.ranges.iter().zip(ranges) {
@@ -55,20 +53,14 @@ fn found(
 
 #[test]
 fn gains_and_losses(rt: HostRuntime) -> Result<(), Fail> {
-    found(&rt, rt.alloc(), &[], &[], None)?;
+    found(&rt, &[], &[], None)?;
     let lost = [switch(0, 3), switch(4, 1), closing(9, 9)];
-    found(&rt, rt.alloc(), &lost, &[(0, 4)], None)?;
+    found(&rt, &lost, &[(0, 4)], None)?;
     let twice = [switch(2, 3), switch(3, 2), switch(5, 3), closing(9, 10)];
-    found(&rt, rt.alloc(), &twice, &[(2, 3), (5, 10)], None)?;
-    found(
-        &rt,
-        rt.alloc(),
-        &[switch(7, 3), closing(7, 8)],
-        &[(7, 8)],
-        None,
-    )?;
+    found(&rt, &twice, &[(2, 3), (5, 10)], None)?;
+    found(&rt, &[switch(7, 3), closing(7, 8)], &[(7, 8)], None)?;
     let open = [switch(2, 3), switch(4, 2), switch(6, 3)];
-    found(&rt, rt.alloc(), &open, &[(2, 4)], Some(6))
+    found(&rt, &open, &[(2, 4)], Some(6))
 }
 
 #[test]
@@ -86,9 +78,9 @@ fn what_changes_nothing(rt: HostRuntime) -> Result<(), Fail> {
         refusal,
         switch(6, 2),
     ];
-    found(&rt, rt.alloc(), &other, &[(2, 6)], None)?;
-    found(&rt, rt.alloc(), &[switch(4, 3), switch(4, 1)], &[], None)?;
-    found(&rt, rt.alloc(), &[switch(9, 3), closing(3, 3)], &[], None)
+    found(&rt, &other, &[(2, 6)], None)?;
+    found(&rt, &[switch(4, 3), switch(4, 1)], &[], None)?;
+    found(&rt, &[switch(9, 3), closing(3, 3)], &[], None)
 }
 
 #[test]

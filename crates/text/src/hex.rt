@@ -25,7 +25,7 @@ impl<T: Drop> From<AllocFailed<T>> for HexFault {
 }
 
 // What a byte of a text is; three cases, so neither an `Option` nor a `Result`.
-#[derive(Clone, Copy)]
+#[derive(Clone, Copy, Debug, PartialEq, Eq)]
 enum Glyph {
     Blank,
     Digit(u8),
@@ -78,7 +78,7 @@ pub fn bytes(heap: Global, text: &[u8]) -> Result<Vec<u8>, HexFault>
 }
 
 // Bytes in upper-case digits, two each, with nothing between them.
-#[derive(Clone, Copy)]
+#[derive(Clone, Copy, Debug, PartialEq, Eq)]
 pub struct Hex<'a>(pub &'a [u8]);
 
 impl fmt::Display for Hex<'_> {

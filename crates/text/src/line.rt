@@ -3,11 +3,11 @@ use records::record::{Noted, Record};
 use std::fmt;
 
 // A record in words, with all its numbers.
-#[derive(Clone, Copy)]
+#[derive(Clone, Copy, Debug, PartialEq, Eq)]
 pub struct Line(pub Record);
 
 // A reading by its numbers.
-#[derive(Clone, Copy)]
+#[derive(Clone, Copy, Debug, PartialEq, Eq)]
 struct At(Noted);
 
 impl fmt::Display for At {

@@ -3,7 +3,7 @@ ghost use Rattle.text.specs.Words.{reason_text, refusal_text};
 
 use guard::reason::Reason;
 
-// Why control stays or changes hands, by the number of the reason.
+// Why control stays or changes hands, by the number of the reason, since a record may hold any.
 pub fn reason(n: u8) -> &'static str
     ensures { result.now ≡ reason_text n }
 {

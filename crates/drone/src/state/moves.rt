@@ -17,6 +17,9 @@ pub(crate) const ACTIONS: u8 = 7;
 
 pub(crate) const GUSTS: u8 = 9;
 
+// Actions are numbers, as every guard's are; an enum of them would be made in each function only to be matched on.
+const HOVER: u8 = 0;
+
 const X_UP: u8 = 1;
 
 const X_DOWN: u8 = 2;
@@ -118,7 +121,7 @@ impl DroneState {
         ensures { result ≡ drawn self a }
     {
         match a {
-            0 => 2,
+            HOVER => 2,
             X_UP | X_DOWN | Y_UP | Y_DOWN => 3,
             CLIMB => 4,
             DESCEND if self.z > 0 => 2,
