@@ -40,12 +40,12 @@ pub record PassedOver (log : List ℕ) (at : ℕ) (entry : Option Record) (x : W
 
 -- what is left of the test on the room, by the answer
 by_room : (b : Bool) (next end : ℕ) → Ok next ≡ cond {A = Result ℕ WriteRefusal} b (Err NoRoom) (Ok end) → (b ≡ false) × (next ≡ end)
-by_room true next end e = let z : ◌≡◌ {A = ℕ} 0 1 = cc in absurd (omega arith)
+by_room true next end e = cc
 by_room false next end e = (refl, cc)
 
 by_no_room : (b : Bool) (x : WriteRefusal) (end : ℕ) → Err x ≡ cond {A = Result ℕ WriteRefusal} b (Err NoRoom) (Ok end) → b ≡ true
 by_no_room true x end e = refl
-by_no_room false x end e = let z : ◌≡◌ {A = ℕ} 0 1 = cc in absurd (omega arith)
+by_no_room false x end e = cc
 
 not_zero : (x : RunRefusal) → numbered_run x ≡ 0 → ⊥
 not_zero (Read Cut) e = omega arith
@@ -57,13 +57,10 @@ not_zero (Write NoRoom) e = omega arith
 always_sixteen : (x : WriteRefusal) → numbered_write x ≡ 16
 always_sixteen NoRoom = refl
 
-nothing_fits : (n : ℕ) → ltb n 0 ≡ false
-nothing_fits n = grind arith
-
 pub stored : (log : List ℕ) (at : ℕ) (entry : Option Record) (next : ℕ) (after : List ℕ) → Kept log at entry (Ok next) after → Stored log at entry next after
 stored log at None next after (e, l) =
     let n : next ≡ at = cc in
-    record { fits = nothing_fits (length log - at); next_is = omega arith; after_is = l ∙ placed_none log at; backed = tt }
+    record { fits = grind arith; next_is = omega arith; after_is = l ∙ placed_none log at; backed = tt }
 stored log at (Some r) next after w =
     let f = by_room (ltb (length log - at) (length (bytes r))) next (at + length (bytes r)) w.answer_is in
     record {
@@ -74,7 +71,7 @@ stored log at (Some r) next after w =
     }
 
 pub passed_over : (log : List ℕ) (at : ℕ) (entry : Option Record) (x : WriteRefusal) (after : List ℕ) → Kept log at entry (Err x) after → PassedOver log at entry x after
-passed_over log at None x after (e, l) = let z : ◌≡◌ {A = ℕ} 0 1 = cc in absurd (omega arith)
+passed_over log at None x after (e, l) = cc
 passed_over log at (Some r) x after w =
     let f = by_no_room (ltb (length log - at) (length (bytes r))) x (at + length (bytes r)) w.answer_is in
     record { short = f; after_is = w.log_is ∙ cond-true _ _ _ f; number_is = always_sixteen x }
@@ -113,18 +110,18 @@ going_none m tape log d =
       room = omega arith;
       log_is = placed_none log 0;
       backed = tt;
-      held_is = ap (λ (n : ℕ). (within n (held d) (deeds_on m d.mission 0 (held d) tape)).held) z;
-      number_is = ap (λ (n : ℕ). (within n (held d) (deeds_on m d.mission 0 (held d) tape)).number) z;
-      course_is = ap (λ (n : ℕ). (within n (held d) (deeds_on m d.mission 0 (held d) tape)).log) z;
+      held_is = rw (← z);
+      number_is = rw (← z);
+      course_is = rw (← z);
     }
 
 module _ {G S : Type 0} {gs : Ghosts G S} (m : Meaning S) (tape log : List ℕ) (d : Executive G S gs) (i at : ℕ) (nowlog : List ℕ) (e : Executive G S gs) (rest : List ℕ) (k : Going m tape log d i at nowlog e rest) where
   left_by : (c : Course S) → within (length log - at) (held e) (deeds_on m d.mission i (held e) rest) ≡ c → Left m tape log d k.done c
   left_by c w =
       record {
-        held_is = k.held_is ∙ ap (λ (x : Course S). x.held) w;
-        number_is = k.number_is ∙ ap (λ (x : Course S). x.number) w;
-        course_is = k.course_is ∙ ap (λ (x : Course S). k.done ++ x.log) w;
+        held_is = rw w at k.held_is;
+        number_is = rw w at k.number_is;
+        course_is = rw w at k.course_is;
       }
 
   same_length : length nowlog ≡ length log
@@ -136,27 +133,27 @@ module _ {G S : Type 0} {gs : Ghosts G S} (m : Meaning S) (tape log : List ℕ) 
       let t : take y.written after ≡ joined all = ap (take y.written) l ∙ take_at (joined all) _ y.written (sym w) in
       record {
         number_is = n;
-        written_is = w ∙ ap (λ (rs : List Record). length (joined rs)) (sym a);
-        log_is = l ∙ ap (λ (rs : List Record). placed log 0 (joined rs)) (sym a);
+        written_is = rw a w;
+        log_is = rw a l;
         held_is = h;
         guard_is = gu;
         mission_is = mi;
-        back = subst (λ (rs : List Record). Tape (take y.written after) rs at_end) (sym a) (subst (λ (bs : List ℕ). Tape bs all at_end) (sym t) (tape_of all b));
+        back = rw (a, t) (tape_of all b);
       }
 
   -- the tape's end
   pub going_end : (y : Ended) (f : Executive G S gs) → deeds_on m e.mission i (held e) rest ≡ [] → held f ≡ held e → f.guard ≡ e.guard → f.mission ≡ e.mission → y.written ≡ at → y.refusal ≡ None → Came m tape log y nowlog d f
   going_end y f q h g mi w n =
-      let none = ap (λ (x : ℕ). deeds_on m x i (held e) rest) (sym k.mission_is) ∙ q in
+      let none = rw k.mission_is at q in
       let l = left_by (record { held = held e; events = []; log = []; number = 0 }) (ap (within (length log - at) (held e)) none) in
       came k.done y nowlog f (l.course_is ∙ append-nil k.done) k.backed (w ∙ k.at_is) k.log_is (ap end_number n ∙ sym l.number_is) (h ∙ sym l.held_is) (g ∙ k.guard_is) (mi ∙ k.mission_is)
 
   module _ (y : Due) (f : Executive G S gs) (later : List ℕ) (first : First m i rest y e f later) where
     head : deeds_on m d.mission i (held e) rest ≡ first.deed ∷ first.later
-    head = ap (λ (n : ℕ). deeds_on m n i (held e) rest) (sym k.mission_is) ∙ first.deeds_are
+    head = rw k.mission_is at first.deeds_are
 
     tested : (b : Bool) → ltb (length nowlog - at) (size y.entry) ≡ b → ltb (length log - at) (size first.deed.entry) ≡ b
-    tested b t = ap (λ (n : ℕ). ltb (n - at) (size first.deed.entry)) (sym same_length) ∙ ap (λ (r : Option Record). ltb (length nowlog - at) (size r)) (sym first.entry_is) ∙ t
+    tested b t = rw (same_length, first.entry_is) at t
 
     -- the entry does not fit
     pub going_full : (x : WriteRefusal) (after : List ℕ) (z : Ended) → f.guard ≡ e.guard → f.mission ≡ e.mission → PassedOver nowlog at y.entry x after → z.written ≡ at → z.refusal ≡ Some (Write x) → Came m tape log z after d f
