@@ -1,5 +1,5 @@
 -- The calls of a run are those that the records of its tape ask for.
-use Rattle.std.proofs.Common.{◌≡◌, ℕ, ◌-◌, Bool, true, false, cond, eqb, List, [], ◌∷◌, ◌++◌, Ok, Err, Result, sym, refl, ap, ◌∙◌, subst, append_assoc, append-nil}
+use Rattle.std.proofs.Common.{◌≡◌, ℕ, ◌-◌, Bool, true, false, cond, eqb, List, [], ◌∷◌, ◌++◌, Ok, Err, Result, sym, refl, ap, ◌∙◌, append_assoc, append-nil}
 use Rattle.std.proofs.lemmas.Bool.{eqb-false}
 use Rattle.guard.specs.Meaning.{Meaning}
 use Rattle.guard.specs.declared.reading.Reading.{Reading}
@@ -97,5 +97,4 @@ module _ {S : Type 0} (m : Meaning S) where
       let d = deed m mission i e (asks m r) in
       let left = room - size d.entry in
       let rest = course_called mission left (next_place i) d.held rs s in
-      let Then : Bool → Course S = λ b. within left d.held (cond b (deeds m mission (next_place i) d.held rs s) []) in
-      first_called r rs d (Then (eqb d.ending 0)) _ (eqb d.ending 0) (deed_calls mission i e (asks m r) (plain r)) (λ z. ending_so mission i e (asks m r) (eqb-false d.ending 0 z)) (λ z. subst (λ (b : Bool). Called m rs (Then b).events (Then b).number) (sym z) rest)
+      first_called r rs d _ _ (eqb d.ending 0) (deed_calls mission i e (asks m r) (plain r)) (λ z. ending_so mission i e (asks m r) (eqb-false d.ending 0 z)) (λ z. rw z rest)

@@ -1,5 +1,5 @@
 -- A run as it goes on, record by record.
-use Rattle.std.proofs.Common.{◌≡◌, ℕ, ◌+◌, ◌-◌, ◌≤◌, Bool, true, false, cond, eqb, ltb, List, [], ◌∷◌, ◌++◌, length, take, Some, None, Ok, Err, Option, Result, sym, refl, ap, ◌∙◌, subst, append_assoc, append-nil, arith, length-append, take_at}
+use Rattle.std.proofs.Common.{◌≡◌, ℕ, ◌+◌, ◌-◌, ◌≤◌, Bool, true, false, cond, eqb, ltb, List, [], ◌∷◌, ◌++◌, length, take, Some, None, Ok, Err, Option, Result, sym, refl, ap, ◌∙◌, append_assoc, append-nil, arith, length-append, take_at}
 use Rattle.std.specs.Option.{option_to_list}
 use Rattle.std.proofs.lemmas.Bool.{cond-true, cond-false, ltb-false, eq-eqb, ne_eqb}
 use Rattle.guard.specs.Meaning.{Meaning}
@@ -9,7 +9,7 @@ use Rattle.guard.specs.declared.Guard.{Ghosts}
 use Rattle.executive.specs.declared.held.Executive.{Executive}
 use Rattle.records.specs.Bytes.{bytes}
 use Rattle.records.specs.Refusals.{numbered_write}
-use Rattle.records.specs.Tapes.{at_end, Tape, joined}
+use Rattle.records.specs.Tapes.{joined}
 use Rattle.records.specs.Writing.{placed}
 use Rattle.records.specs.declared.record.Record.{Record}
 use Rattle.records.specs.declared.refusal.WriteRefusal.{WriteRefusal}
@@ -114,6 +114,10 @@ going_none m tape log d =
       number_is = rw (← z);
       course_is = rw (← z);
     }
+
+-- what is due first, by the guard that the executive has had from the start
+pub first_at : {G S : Type 0} {gs : Ghosts G S} (means : G → Meaning S) {p q : G} {i : ℕ} {t later : List ℕ} {y : Due} {e f : Executive G S gs} → p ≡ q → First (means p) i t y e f later → First (means q) i t y e f later
+first_at means r h = rw r at h
 
 module _ {G S : Type 0} {gs : Ghosts G S} (m : Meaning S) (tape log : List ℕ) (d : Executive G S gs) (i at : ℕ) (nowlog : List ℕ) (e : Executive G S gs) (rest : List ℕ) (k : Going m tape log d i at nowlog e rest) where
   left_by : (c : Course S) → within (length log - at) (held e) (deeds_on m d.mission i (held e) rest) ≡ c → Left m tape log d k.done c

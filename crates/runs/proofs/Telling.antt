@@ -1,5 +1,5 @@
 -- What the log of a run tells is what its history has.
-use Rattle.std.proofs.Common.{◌≡◌, ℕ, ◌-◌, Bool, true, false, cond, eqb, List, [], ◌∷◌, ◌++◌, Some, None, filter, Option, sym, refl, ap, ◌∙◌, subst, append_assoc, append-nil}
+use Rattle.std.proofs.Common.{◌≡◌, ℕ, ◌-◌, Bool, true, false, cond, eqb, List, [], ◌∷◌, ◌++◌, Some, None, filter, Option, sym, refl, ap, ◌∙◌, append_assoc, append-nil}
 use Rattle.std.specs.Option.{option_to_list}
 use Rattle.std.proofs.lemmas.List.Elements.{filter-append}
 use Rattle.guard.specs.Meaning.{Meaning, Laws}
@@ -49,7 +49,7 @@ module _ {S : Type 0} (m : Meaning S) (mission : ℕ) where
 
   at_last : (i : ℕ) (stored : Option (Reading S)) (c : Call S) (a : Answer) (h : History S) → last h ≡ stored → Tells i stored c a h
   unfolding Tells
-  at_last i stored c a h e = subst (λ (o : Option (Reading S)). filter tells (option_to_list (logged m i o a)) ≡ option_to_list (told m (record { call = c; answer = a }) h)) e (answer_told i c a h)
+  at_last i stored c a h e = rw (← e) (answer_told i c a h)
 
   begin_told : (i : ℕ) (e : Held S) (r : Reading S) (b : Bool) (h : History S) → let o : Outcome S = cond b (record { answer = Accepted; held = in_phase (Ready r) e }) (refusing NotRecoverable e) in Tells i None (Begin r) o.answer h
   unfolding Tells
@@ -119,5 +119,4 @@ module _ {S : Type 0} (m : Meaning S) (mission : ℕ) where
         let left = room - size d.entry in
         let now = deed_onward m laws mission i e (asks m r) h u in
         let rest = course_told left (next_place i) d.held rs s (d.events ++ h) now in
-        let Then : Bool → Course S = λ b. within left d.held (cond b (deeds m mission (next_place i) d.held rs s) []) in
-        first_told d (Then (eqb d.ending 0)) _ (eqb d.ending 0) h (deed_told i e (asks m r) h u) (λ z k. subst (λ (b : Bool). ((Then b).number ≡ 16 → ⊥) → filter tells (Then b).log ≡ tellings m (Then b).events (d.events ++ h)) (sym z) rest k) n
+        first_told d _ _ (eqb d.ending 0) h (deed_told i e (asks m r) h u) (λ z. rw z rest) n

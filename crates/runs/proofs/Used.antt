@@ -1,5 +1,5 @@
 -- Whatever history led to an executive, it goes on with exactly the calls of a run.
-use Rattle.std.proofs.Common.{◌≡◌, ℕ, ◌-◌, Bool, true, false, cond, eqb, List, [], ◌∷◌, ◌++◌, sym, refl, subst, append_assoc}
+use Rattle.std.proofs.Common.{◌≡◌, ℕ, ◌-◌, Bool, true, false, cond, eqb, List, [], ◌∷◌, ◌++◌, refl, append_assoc}
 use Rattle.guard.specs.Meaning.{Meaning, Laws}
 use Rattle.history.specs.History.{History}
 use Rattle.history.specs.Outcome.{Held, outcome}
@@ -39,7 +39,7 @@ module _ {S : Type 0} (m : Meaning S) (laws : Laws m) (mission : ℕ) where
   first_onward : (d : Deed S) (c : Course S) (short on : Bool) (h : History S) → Onward d.held d.events h → (on ≡ true → Onward c.held c.events (d.events ++ h)) → let w = cond short (full d) (cond on (then d c) (ended d)) in Onward w.held w.events h
   unfolding Onward
   first_onward d c true on h u further = u
-  first_onward d c false true h u further = subst (Used m mission c.held) (sym (append_assoc c.events d.events h)) (further refl)
+  first_onward d c false true h u further = rw append_assoc (further refl)
   first_onward d c false false h u further = u
 
   pub course_onward : (room i : ℕ) (e : Held S) (rs : List Record) (s : Stop) (h : History S) → Used m mission e h → Used m mission (within room e (deeds m mission i e rs s)).held ((within room e (deeds m mission i e rs s)).events ++ h)
@@ -51,5 +51,4 @@ module _ {S : Type 0} (m : Meaning S) (laws : Laws m) (mission : ℕ) where
       let left = room - size d.entry in
       let now = deed_onward i e (asks m r) h u in
       let rest = course_onward left (next_place i) d.held rs s (d.events ++ h) now in
-      let Then : Bool → Course S = λ b. within left d.held (cond b (deeds m mission (next_place i) d.held rs s) []) in
-      first_onward d (Then (eqb d.ending 0)) _ (eqb d.ending 0) h now (λ z. subst (λ (b : Bool). Used m mission (Then b).held ((Then b).events ++ (d.events ++ h))) (sym z) rest)
+      first_onward d _ _ (eqb d.ending 0) h now (λ z. rw z rest)

@@ -1,11 +1,9 @@
-use Rattle.std.proofs.Common.{◌++◌, length, sym, ◌∙◌, subst}
-use Rattle.history.specs.Use.{Used}
+use Rattle.std.proofs.Common.{◌++◌, length, ◌∙◌}
 use Rattle.history.proofs.Found.{found}
 use Rattle.executive.specs.Holding.{held}
 use Rattle.records.specs.Tapes.{contents}
 use Rattle.records.proofs.Scanned.{tape_is}
 use Rattle.runs.specs.Courses.{course}
-use Rattle.runs.specs.Law.{Called}
 use Rattle.runs.proofs.Calling.{course_called}
 use Rattle.runs.proofs.Telling.{course_told}
 use Rattle.runs.proofs.Used.{course_onward}
@@ -23,8 +21,8 @@ returns g c =
     record {
       came = c.run_through.ensures;
       tape_is = tape_is tape;
-      called = subst (λ n. Called m (contents tape).records events n) (sym c.run_through.ensures.number_is) (course_called m d.mission room 0 (held d) (contents tape).records (contents tape).stop);
-      history = λ h u. subst (λ f. Used m d.mission f (events ++ h)) (sym c.run_through.ensures.held_is) (onward h u);
+      called = rw c.run_through.ensures.number_is (course_called m d.mission room 0 (held d) (contents tape).records (contents tape).stop);
+      history = λ h u. rw c.run_through.ensures.held_is (onward h u);
       findings = λ h u. found m laws d.mission (events ++ h) (onward h u).right;
       telling = λ h u n. course_told m d.mission laws room 0 (held d) (contents tape).records (contents tape).stop h u (λ k. n (c.run_through.ensures.number_is ∙ k));
     }
