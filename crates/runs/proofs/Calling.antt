@@ -27,21 +27,16 @@ Plain (no_state x) = Unit {0}
 Plain (nothing x) = Unit {0}
 
 module _ {S : Type 0} (m : Meaning S) where
-  plain_begin : (x : Result (Reading S) StateRefusal) → Plain (with_reading Begin x)
+  plain_with : (f : Reading S → Call S) → ((r : Reading S) → unless_spend (f r) ≡ f r ∷ []) → (x : Result (Reading S) StateRefusal) → Plain (with_reading f x)
   unfolding Plain
-  plain_begin (Ok r) = refl
-  plain_begin (Err x) = tt
-
-  plain_observe : (x : Result (Reading S) StateRefusal) → Plain (with_reading Observe x)
-  unfolding Plain
-  plain_observe (Ok r) = refl
-  plain_observe (Err x) = tt
+  plain_with f h (Ok r) = h r
+  plain_with f h (Err x) = tt
 
   plain : (r : Record) → Plain (asks m r)
   unfolding Plain
-  plain (Begins n) = plain_begin (reading_of m n)
+  plain (Begins n) = plain_with Begin (λ r. refl) (reading_of m n)
   plain (Decides b) = refl
-  plain (Observes n) = plain_observe (reading_of m n)
+  plain (Observes n) = plain_with Observe (λ r. refl) (reading_of m n)
   plain Closes = refl
   plain (Switch t why n) = tt
   plain (Refusal i x) = tt

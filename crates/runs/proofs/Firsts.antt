@@ -1,8 +1,7 @@
 -- What is due first of a tape, by what is read of it.
-use Rattle.std.proofs.Common.{◌≡◌, ℕ, cond, eqb, List, [], Some, None, Ok, Err, sym, ap, ◌∙◌, arith}
-use Rattle.std.proofs.lemmas.Bool.{cond-true, eq-eqb}
+use Rattle.std.proofs.Common.{◌≡◌, ℕ, cond, eqb, List, [], Some, None, Ok, Err, sym, ap, ◌∙◌}
+use Rattle.std.proofs.lemmas.Bool.{eq-eqb}
 use Rattle.guard.specs.Meaning.{Meaning}
-use Rattle.history.specs.Outcome.{Held}
 use Rattle.executive.specs.Holding.{held}
 use Rattle.guard.specs.declared.Guard.{Ghosts}
 use Rattle.executive.specs.declared.held.Executive.{Executive}
@@ -12,7 +11,6 @@ use Rattle.records.specs.Tapes.{Contents}
 use Rattle.records.specs.declared.record.Record.{Record}
 use Rattle.records.specs.declared.record.Record.TheVariants.{Refusal}
 use Rattle.records.specs.declared.refusal.ReadRefusal.{ReadRefusal}
-use Rattle.records.specs.declared.refusal.ReadRefusal.TheVariants.{Cut, WrongMark, UnknownKind}
 use Rattle.records.proofs.Scanned.{contents_end, contents_fault, contents_further, rest_shorter}
 use Rattle.runs.specs.Asking.{asks}
 use Rattle.runs.specs.Courses.{next_place, broken, deeds, deeds_on}
@@ -21,11 +19,6 @@ use Rattle.runs.specs.Refusals.{end_number}
 use Rattle.runs.specs.declared.refusal.RunRefusal.TheVariants.{Read}
 use Rattle.runs.specs.Ran.{First}
 use Rattle.runs.specs.declared.due.Due.{Due}
-
-not_zero : (x : ReadRefusal) → numbered_read x ≡ 0 → ⊥
-not_zero Cut e = omega arith
-not_zero WrongMark e = omega arith
-not_zero UnknownKind e = omega arith
 
 module _ {G S : Type 0} {gs : Ghosts G S} (m : Meaning S) (i : ℕ) (t : List ℕ) (d : Executive G S gs) where
   of_contents : Contents → List (Deed S)
@@ -46,7 +39,7 @@ module _ {G S : Type 0} {gs : Ghosts G S} (m : Meaning S) (i : ℕ) (t : List �
         entry_is = k.entry_is;
         ending_is = k.ending_is;
         held_is = k.held_is;
-        later_are = λ z. cond-true (eqb w.ending 0) _ _ (eq-eqb w.ending 0 (sym k.ending_is ∙ ap end_number z)) ∙ ap (λ (f : Held S). deeds_on m d.mission (next_place i) f rest) (sym k.held_is);
+        later_are = λ z. rw (eq-eqb w.ending 0 (sym k.ending_is ∙ ap end_number z), k.held_is);
         shorter = λ z. rest_shorter t r rest q;
       }
 
@@ -60,6 +53,6 @@ module _ {G S : Type 0} {gs : Ghosts G S} (m : Meaning S) (i : ℕ) (t : List �
         entry_is = entry;
         ending_is = ap end_number ending;
         held_is = held_is;
-        later_are = λ z. absurd (not_zero x (sym (ap end_number ending) ∙ ap end_number z));
-        shorter = λ z. absurd (not_zero x (sym (ap end_number ending) ∙ ap end_number z));
+        later_are = λ z. cc;
+        shorter = λ z. cc;
       }

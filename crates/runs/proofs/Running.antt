@@ -3,7 +3,6 @@ use Rattle.std.proofs.Common.{◌≡◌, ℕ, ◌+◌, ◌-◌, ◌≤◌, Bool,
 use Rattle.std.specs.Option.{option_to_list}
 use Rattle.std.proofs.lemmas.Bool.{cond-true, cond-false, ltb-false, eq-eqb, ne_eqb}
 use Rattle.guard.specs.Meaning.{Meaning}
-use Rattle.history.specs.Outcome.{Held}
 use Rattle.executive.specs.Holding.{held}
 use Rattle.guard.specs.declared.Guard.{Ghosts}
 use Rattle.executive.specs.declared.held.Executive.{Executive}
@@ -189,7 +188,7 @@ module _ {G S : Type 0} {gs : Ghosts G S} (m : Meaning S) (tape log : List ℕ) 
           let a = k.at_is in
           let z = entry_size in
           let f' = fitting in
-          placed_then log 0 at (joined k.done) (joined (option_to_list y.entry)) nowlog after (omega arith) (omega arith) k.log_is s.after_is ∙ ap (placed log 0) (sym (joined_both k.done (option_to_list y.entry)))
+          rw (joined_both k.done (option_to_list y.entry)) (placed_then log 0 at (joined k.done) (joined (option_to_list y.entry)) nowlog after (omega arith) (omega arith) k.log_is s.after_is)
 
       not_short : within (length log - at) (held e) (deeds_on m d.mission i (held e) rest) ≡ cond (eqb first.deed.ending 0) (then first.deed (within (length log - at - size first.deed.entry) first.deed.held first.later)) (ended first.deed)
       not_short = ap (within (length log - at) (held e)) head ∙ cond-false _ _ _ (tested false s.fits)
@@ -200,7 +199,7 @@ module _ {G S : Type 0} {gs : Ghosts G S} (m : Meaning S) (tape log : List ℕ) 
           let number : first.deed.ending ≡ numbered_run x = sym first.ending_is ∙ ap end_number o in
           let b : eqb first.deed.ending 0 ≡ false = ne_eqb first.deed.ending 0 (λ u. not_zero x (sym number ∙ u)) in
           let l = left_by (ended first.deed) (not_short ∙ cond-false _ _ _ b) in
-          came (k.done ++ option_to_list y.entry) z after f (l.course_is ∙ ap (λ (r : Option Record). k.done ++ option_to_list r) (sym first.entry_is)) more_backed (w ∙ more_length) more_placed (ap end_number q ∙ sym number ∙ sym l.number_is) (first.held_is ∙ sym l.held_is) (g ∙ k.guard_is) (n ∙ k.mission_is)
+          came (k.done ++ option_to_list y.entry) z after f (rw (← first.entry_is) at l.course_is) more_backed (w ∙ more_length) more_placed (ap end_number q ∙ sym number ∙ sym l.number_is) (first.held_is ∙ sym l.held_is) (g ∙ k.guard_is) (n ∙ k.mission_is)
 
       -- and otherwise it goes on
       pub going_more : f.guard ≡ e.guard → f.mission ≡ e.mission → y.ending ≡ None → Going m tape log d (next_place i) next after f later
@@ -210,12 +209,8 @@ module _ {G S : Type 0} {gs : Ghosts G S} (m : Meaning S) (tape log : List ℕ) 
           let r : length log - at - size first.deed.entry ≡ length log - next = let v = ap size first.entry_is in let u = s.next_is in omega arith in
           let left = within (length log - at - size first.deed.entry) first.deed.held first.later in
           let onward = within (length log - next) (held f) (deeds_on m d.mission (next_place i) (held f) later) in
-          let t : left ≡ onward =
-          ap (λ (x : ℕ). within x first.deed.held first.later) r
-          ∙ ap (λ (x : Held S). within (length log - next) x first.later) (sym first.held_is)
-          ∙ ap (within (length log - next) (held f)) (first.later_are o ∙ ap (λ (x : ℕ). deeds_on m x (next_place i) (held f) later) k.mission_is)
-          in
-          let l = left_by (then first.deed left) c in
+          let t : left ≡ onward = rw (r, ← first.held_is, first.later_are o, k.mission_is) in
+          let l = left_by (then first.deed onward) (c ∙ ap (then first.deed) t) in
           record {
             done = k.done ++ option_to_list y.entry;
             guard_is = g ∙ k.guard_is;
@@ -224,7 +219,7 @@ module _ {G S : Type 0} {gs : Ghosts G S} (m : Meaning S) (tape log : List ℕ) 
             room = let u = s.next_is in let v = fitting in omega arith;
             log_is = more_placed;
             backed = more_backed;
-            held_is = l.held_is ∙ ap (λ (x : Course S). x.held) t;
-            number_is = l.number_is ∙ ap (λ (x : Course S). x.number) t;
-            course_is = l.course_is ∙ ap (λ (x : Course S). k.done ++ (option_to_list first.deed.entry ++ x.log)) t ∙ ap (λ (x : Option Record). k.done ++ (option_to_list x ++ onward.log)) (sym first.entry_is) ∙ sym (append_assoc k.done (option_to_list y.entry) onward.log);
+            held_is = l.held_is;
+            number_is = l.number_is;
+            course_is = rw (first.entry_is, append_assoc) l.course_is;
           }
