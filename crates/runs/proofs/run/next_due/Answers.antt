@@ -1,5 +1,4 @@
-use Rattle.std.proofs.Common.{◌≡◌, Some, None, Ok, Err, refl, ap, ◌∙◌, rules}
-use Rattle.records.specs.Readers.{unread}
+use Rattle.std.proofs.Common.{refl, ap, ◌∙◌, rules}
 use Rattle.records.proofs.Opened.{read_none, read_some, read_err}
 use Rattle.runs.specs.Asking.{asks}
 use Rattle.runs.specs.Deeds.{CarriedAt}
@@ -9,17 +8,13 @@ use Rattle.runs.proofs.run.next_due.Goals as goal
 
 pub returns-in-Ok-None : goal.returns-in-Ok-None
 returns-in-Ok-None g c =
-    let t = unread c.args.reader.now in
     let d = c.args.e.now in
-    let y : c.next.result ≡ Ok None = search rules in
-    record { due = (none_due (g.G.Guard.meaning d.guard) c.args.place t d (read_none t _ _ c.next.ensures y), refl); guard = refl; mission = refl }
+    record { due = (none_due (g.G.Guard.meaning d.guard) c.args.place _ d (read_none _ _ _ c.next.ensures (search rules)), refl); guard = refl; mission = refl }
 
 pub returns-in-Ok-Some : goal.returns-in-Ok-Some
 returns-in-Ok-Some g c =
-    let t = unread c.args.reader.now in
     let d = c.args.e.now in
     let r = c.in-Ok-Some.r in
-    let y : c.next.result ≡ Ok (Some r) = search rules in
     let k = c.carry_out.ensures c.args.place in
     let o = c.of-due.ensures in
     let m = g.G.Guard.meaning d.guard in
@@ -30,16 +25,14 @@ returns-in-Ok-Some g c =
       guard_is = k.guard_is;
       mission_is = k.mission_is;
     } in
-    record { due = record_due m c.args.place t d r _ _ _ (read_some t _ _ c.next.ensures r y) due; guard = k.guard_is; mission = k.mission_is }
+    record { due = record_due m c.args.place _ d r _ _ _ (read_some _ _ _ c.next.ensures r (search rules)) due; guard = k.guard_is; mission = k.mission_is }
 
 pub returns-in-Err : goal.returns-in-Err
 returns-in-Err g c =
-    let t = unread c.args.reader.now in
     let d = c.args.e.now in
     let x = c.in-Err.x in
-    let y : c.next.result ≡ Err x = search rules in
     record {
-      due = fault_due (g.G.Guard.meaning d.guard) c.args.place t d x _ _ _ (read_err t _ _ c.next.ensures x y) c.of.ensures.entry c.of.ensures.ending refl;
+      due = fault_due (g.G.Guard.meaning d.guard) c.args.place _ d x _ _ _ (read_err _ _ _ c.next.ensures x (search rules)) c.of.ensures.entry c.of.ensures.ending refl;
       guard = refl;
       mission = refl;
     }
