@@ -6,10 +6,8 @@ use Rattle.runs.specs.Refusals.{end_number}
 use Rattle.runs.proofs.Firsts.{none_due, record_due, fault_due}
 use Rattle.runs.proofs.run.next_due.Goals as goal
 
-pub returns-in-Ok-None : goal.returns-in-Ok-None
-returns-in-Ok-None g c =
-    let d = c.args.e.now in
-    record { due = (none_due (g.G.Guard.meaning d.guard) c.args.place _ d (read_none _ _ _ c.next.ensures (search rules)), refl); guard = refl; mission = refl }
+pub returns-in-Ok-None-clause-due : goal.returns-in-Ok-None-clause-due
+returns-in-Ok-None-clause-due g c = (none_due (g.G.Guard.meaning c.args.e.now.guard) c.args.place _ c.args.e.now (read_none _ _ _ c.next.ensures (search rules)), refl)
 
 pub returns-in-Ok-Some : goal.returns-in-Ok-Some
 returns-in-Ok-Some g c =
@@ -27,12 +25,7 @@ returns-in-Ok-Some g c =
     } in
     record { due = record_due m c.args.place _ d r _ _ _ (read_some _ _ _ c.next.ensures r (search rules)) due; guard = k.guard_is; mission = k.mission_is }
 
-pub returns-in-Err : goal.returns-in-Err
-returns-in-Err g c =
-    let d = c.args.e.now in
+pub returns-in-Err-clause-due : goal.returns-in-Err-clause-due
+returns-in-Err-clause-due g c =
     let x = c.in-Err.x in
-    record {
-      due = fault_due (g.G.Guard.meaning d.guard) c.args.place _ d x _ _ _ (read_err _ _ _ c.next.ensures x (search rules)) c.of.ensures.entry c.of.ensures.ending refl;
-      guard = refl;
-      mission = refl;
-    }
+    fault_due (g.G.Guard.meaning c.args.e.now.guard) c.args.place _ c.args.e.now x _ _ _ (read_err _ _ _ c.next.ensures x (search rules)) c.of.ensures.entry c.of.ensures.ending refl
