@@ -1,12 +1,12 @@
 -- What a due answer tells of the history before it, by kinds of calls.
 use Rattle.std.proofs.Common.{◌≡◌, ℕ, ◌<◌, ◌≤◌, Bool, true, false, cond, ◌&&◌, ltb, ◌⊎◌, Some, None, Option, refl, ap, ◌∙◌, inl, inr}
-use Rattle.std.proofs.lemmas.Bool.{ltb-true, ltb-false, both_ways}
+use Rattle.std.proofs.lemmas.Bool.{cond_both, ltb-true, ltb-false}
 use Rattle.guard.specs.declared.reading.Reading.{Reading}
 use Rattle.guard.specs.Meaning.{Meaning}
 use Rattle.guard.specs.Decision.{admissible, calm, state_follows, charge_follows}
 use Rattle.history.specs.History.{History, Stage, parked, ready, granted, moving, closed, stage, last, tick, planner, grant, given, spent, won, lost}
 use Rattle.history.proofs.Tickets.{same_ticket_Decides}
-use Rattle.history.specs.Due.{has_place, of_reading, of_grant, choice, same_ticket, due}
+use Rattle.history.specs.Due.{has_place, choice, same_ticket, due}
 use Rattle.history.specs.declared.calls.Ticket.{Ticket}
 use Rattle.history.specs.declared.calls.Call.{Call}
 use Rattle.history.specs.declared.calls.Call.TheVariants.{Begin, Decide, Spend, Observe, Close}
@@ -57,61 +57,56 @@ module _ {S : Type 0} (m : Meaning S) where
 module _ {S : Type 0} (m : Meaning S) (mission : ℕ) (h : History S) where
   -- a refusal for another cause than the mission's end
   other : {c : Call S} (x : CallRefusal) → is_over x ≡ false → Told m mission h c (Refused x)
-  other x e = turned (λ d. absurd (both_ways (is_over x) e d))
+  other x e = turned (λ d. cc)
 
-  told_begin : (r : Reading S) (s : Stage) (ok : Bool) → stage h ≡ s → m.recoverable r ≡ ok → Told m mission h (Begin r) (cond (has_place s (Begin r)) (cond ok Accepted (Refused NotRecoverable)) (Refused WrongPhase))
-  told_begin r parked true e d = begun e d
-  told_begin r parked false e d = other NotRecoverable refl
-  told_begin r ready ok e d = other WrongPhase refl
-  told_begin r granted ok e d = other WrongPhase refl
-  told_begin r moving ok e d = other WrongPhase refl
-  told_begin r closed ok e d = other WrongPhase refl
+  -- a call without a place in the phase
+  wrong : (c : Call S) (s : Stage) → stage h ≡ s → has_place s c ≡ false → Told m mission h c (due m mission h c)
+  wrong c s e f = rw (e, f) (other WrongPhase refl)
 
-  told_decide : (b : ℕ) (s : Stage) (few : Bool) (l : Option (Reading S)) → stage h ≡ s → ltb (tick h) 1000000 ≡ few → last h ≡ l → Told m mission h (Decide b) (cond (has_place {S = S} s (Decide b)) (cond few (of_reading l λ r. Granted (record { mission = mission; tick = tick h; action = (choice m (planner h) r b).0; reason = (choice m (planner h) r b).1 })) (Refused MissionOver)) (Refused WrongPhase))
-  told_decide b parked few l e f d = other WrongPhase refl
-  told_decide b ready true None e f d = other WrongPhase refl
-  told_decide b ready true (Some r) e f d = decided r e d refl refl (ltb-true _ _ f) (chosen m (planner h) r b)
-  told_decide b ready false l e f d = turned (λ _. ltb-false _ _ f)
-  told_decide b granted few l e f d = other WrongPhase refl
-  told_decide b moving few l e f d = other WrongPhase refl
-  told_decide b closed few l e f d = other WrongPhase refl
+  told_begin : (r : Reading S) → stage h ≡ parked → Told m mission h (Begin r) (due m mission h (Begin r))
+  told_begin r e = rw e (cond_both (m.recoverable r) _ _ (Told m mission h (Begin r)) (λ d. begun e d) (λ d. other NotRecoverable refl))
 
-  told_spent : (p g : Ticket) (ok : Bool) → stage h ≡ granted → grant h ≡ Some g → same_ticket g p ≡ ok → Told m mission h (Spend p) (cond ok (Spent g.action) (Refused OtherGrant))
-  told_spent p g true e d f = let n : g ≡ p = (same_ticket_Decides g p).0 f in done e (d ∙ ap Some n) (ap (λ (t : Ticket). t.action) n)
-  told_spent p g false e d f = other OtherGrant refl
+  told_decide : (b : ℕ) (l : Option (Reading S)) → stage h ≡ ready → last h ≡ l → Told m mission h (Decide b) (due m mission h (Decide b))
+  told_decide b None e d = rw (e, d) (cond_both (ltb (tick h) 1000000) _ _ (Told m mission h (Decide b)) (λ f. other WrongPhase refl) (λ f. turned (λ _. ltb-false _ _ f)))
+  told_decide b (Some r) e d =
+      rw (e, d) (cond_both (ltb (tick h) 1000000) _ _ (Told m mission h (Decide b)) (λ f. decided r e d refl refl (ltb-true _ _ f) (chosen m (planner h) r b))
+      (λ f. turned (λ _. ltb-false _ _ f)))
 
-  told_spend : (p : Ticket) (s : Stage) (g : Option Ticket) → stage h ≡ s → grant h ≡ g → Told m mission h (Spend p) (cond (has_place {S = S} s (Spend p)) (of_grant g λ g. cond (same_ticket g p) (Spent g.action) (Refused OtherGrant)) (Refused WrongPhase))
-  told_spend p parked g e d = other WrongPhase refl
-  told_spend p ready g e d = other WrongPhase refl
-  told_spend p granted None e d = other WrongPhase refl
-  told_spend p granted (Some g) e d = told_spent p g (same_ticket g p) e d refl
-  told_spend p moving g e d = other WrongPhase refl
-  told_spend p closed g e d = other WrongPhase refl
+  told_spend : (p : Ticket) (g : Option Ticket) → stage h ≡ granted → grant h ≡ g → Told m mission h (Spend p) (due m mission h (Spend p))
+  told_spend p None e d = rw (e, d) (other WrongPhase refl)
+  told_spend p (Some g) e d =
+      rw (e, d) (cond_both (same_ticket g p) _ _ (Told m mission h (Spend p)) (λ f. let n : g ≡ p = (same_ticket_Decides g p).0 f in done e (d ∙ ap Some n) (ap (λ (t : Ticket). t.action) n))
+      (λ f. other OtherGrant refl))
 
-  told_seen : (t r : Reading S) (g : Ticket) (ok few : Bool) → stage h ≡ moving → last h ≡ Some r → grant h ≡ Some g → state_follows m r.state g.action t.state ≡ ok → charge_follows m r g.action t.charge ≡ few → Told m mission h (Observe t) (cond ok (cond few Accepted (Refused ChargeCannotFollow)) (Refused StateCannotFollow))
-  told_seen t r g true true e d f i j = observed r g e d f i j
-  told_seen t r g true false e d f i j = other ChargeCannotFollow refl
-  told_seen t r g false few e d f i j = other StateCannotFollow refl
+  told_observe : (t : Reading S) (l : Option (Reading S)) (g : Option Ticket) → stage h ≡ moving → last h ≡ l → grant h ≡ g → Told m mission h (Observe t) (due m mission h (Observe t))
+  told_observe t None g e d f = rw (e, d) (other WrongPhase refl)
+  told_observe t (Some r) None e d f = rw (e, d, f) (other WrongPhase refl)
+  told_observe t (Some r) (Some g) e d f =
+      rw (e, d, f) (cond_both (state_follows m r.state g.action t.state) _ _ (Told m mission h (Observe t)) (λ i. cond_both (charge_follows m r g.action t.charge) _ _ (Told m mission h (Observe t)) (λ j. observed r g e d f i j) (λ j. other ChargeCannotFollow refl))
+      (λ i. other StateCannotFollow refl))
 
-  told_observe : (t : Reading S) (s : Stage) (l : Option (Reading S)) (g : Option Ticket) → stage h ≡ s → last h ≡ l → grant h ≡ g → Told m mission h (Observe t) (cond (has_place s (Observe t)) (of_reading l λ r. of_grant g λ g. cond (state_follows m r.state g.action t.state) (cond (charge_follows m r g.action t.charge) Accepted (Refused ChargeCannotFollow)) (Refused StateCannotFollow)) (Refused WrongPhase))
-  told_observe t parked l g e d f = other WrongPhase refl
-  told_observe t ready l g e d f = other WrongPhase refl
-  told_observe t granted l g e d f = other WrongPhase refl
-  told_observe t moving None g e d f = other WrongPhase refl
-  told_observe t moving (Some r) None e d f = other WrongPhase refl
-  told_observe t moving (Some r) (Some g) e d f = told_seen t r g _ _ e d f refl refl
-  told_observe t closed l g e d f = other WrongPhase refl
-
-  told_close : (s : Stage) → stage h ≡ s → Told m mission h Close (cond (has_place {S = S} s Close) (Ended (record { tick = tick h; given = given h; spent = spent h; gains = won h; losses = lost h })) (Refused WrongPhase))
-  told_close parked e = other WrongPhase refl
-  told_close ready e = ended (inl e)
-  told_close granted e = other WrongPhase refl
-  told_close moving e = ended (inr e)
-  told_close closed e = other WrongPhase refl
+  told_at : (s : Stage) → stage h ≡ s → (c : Call S) → Told m mission h c (due m mission h c)
+  told_at parked e (Begin r) = told_begin r e
+  told_at parked e (Decide b) = wrong (Decide b) parked e refl
+  told_at parked e (Spend p) = wrong (Spend p) parked e refl
+  told_at parked e (Observe t) = wrong (Observe t) parked e refl
+  told_at parked e Close = wrong Close parked e refl
+  told_at ready e (Begin r) = wrong (Begin r) ready e refl
+  told_at ready e (Decide b) = told_decide b (last h) e refl
+  told_at ready e (Spend p) = wrong (Spend p) ready e refl
+  told_at ready e (Observe t) = wrong (Observe t) ready e refl
+  told_at ready e Close = rw e (ended (inl e))
+  told_at granted e (Begin r) = wrong (Begin r) granted e refl
+  told_at granted e (Decide b) = wrong (Decide b) granted e refl
+  told_at granted e (Spend p) = told_spend p (grant h) e refl
+  told_at granted e (Observe t) = wrong (Observe t) granted e refl
+  told_at granted e Close = wrong Close granted e refl
+  told_at moving e (Begin r) = wrong (Begin r) moving e refl
+  told_at moving e (Decide b) = wrong (Decide b) moving e refl
+  told_at moving e (Spend p) = wrong (Spend p) moving e refl
+  told_at moving e (Observe t) = told_observe t (last h) (grant h) e refl refl
+  told_at moving e Close = rw e (ended (inr e))
+  told_at closed e c = wrong c closed e refl
 
   pub told : (c : Call S) → Told m mission h c (due m mission h c)
-  told (Begin r) = told_begin r (stage h) (m.recoverable r) refl refl
-  told (Decide b) = told_decide b (stage h) (ltb (tick h) 1000000) (last h) refl refl refl
-  told (Spend p) = told_spend p (stage h) (grant h) refl refl
-  told (Observe t) = told_observe t (stage h) (last h) (grant h) refl refl refl
-  told Close = told_close (stage h) refl
+  told = told_at (stage h) refl
