@@ -1,5 +1,5 @@
 -- The tests of the decision rule decide what can follow.
-use Rattle.std.proofs.Common.{◌≡◌, ℕ, ◌<◌, ◌≤◌, Bool, true, false, T, ltb, leb, Some, Decides, sym, refl, ap, ◌∙◌, subst, inl, inr, arith}
+use Rattle.std.proofs.Common.{◌≡◌, ℕ, ◌<◌, ◌≤◌, Bool, true, false, T, ltb, leb, Some, Decides, sym, refl, ap, ◌∙◌, inl, inr, arith}
 use Rattle.std.proofs.lemmas.Bool.Decides.{Decides-and, Decides-like, Decides-int_eq}
 use Rattle.std.proofs.lemmas.Bool.{and_parts, and_from, and_cases, ltb-true, ltb-false, lt-ltb, le-leb, leb-true}
 pub use Rattle.std.specs.Bool.{passes as true_T}
@@ -34,8 +34,7 @@ module _ {S : Type 0} (m : Meaning S) (laws : Laws m) where
 
   -- more charge than the lowest does no harm
   recoverable_above : (r t : Reading S) (a w : ℕ) → T (m.recoverable (lowest m r a w)) → t.state ≡ m.after r.state a w → lowest_charge m r a ≤ t.charge → T (m.recoverable t)
-  recoverable_above r t a w h e l =
-      subst (λ (s : S). T (m.recoverable (record { state = s; charge = t.charge }))) (sym e) (laws.charged (lowest m r a w) t.charge l h)
+  recoverable_above r t a w h e l = rw e (laws.charged (lowest m r a w) t.charge l h)
 
   pub decides_admissible : (r : Reading S) (a : ℕ) → Decides (admissible m r a) (Admits m r a)
   decides_admissible r a = (
@@ -77,6 +76,6 @@ module _ {S : Type 0} (m : Meaning S) (laws : Laws m) where
             },
         λ h.
             let w = h.gust.0 in
-            let e : f w ≡ true = subst (λ (u : S). same_numbers (m.numbers u) (m.numbers t.state) ≡ true) h.gust.2 ((same_numbers_Decides (m.numbers t.state) (m.numbers t.state)).1 refl) in
+            let e : f w ≡ true = rw (← h.gust.2) ((same_numbers_Decides (m.numbers t.state) (m.numbers t.state)).1 refl) in
             and_from _ _ (and_from _ _ (lt-ltb a m.actions h.action) (any_some m.gusts w f h.gust.1 e)) (and_from _ _ (le-leb _ _ h.low) (le-leb _ _ h.high)),
       )
