@@ -1,4 +1,6 @@
 use crate::common::{executive, runs_to};
+use cart::Cart;
+use executive::held::Executive;
 use history::phase::Phase;
 use std::test::Fail;
 
@@ -18,6 +20,14 @@ const WHOLE: &[u8] = b"4D4C05 00000000 03 F4010000 00000000 00000000 C800
     4D4C06 02000000 06
     4D4C07 01000000 01000000 01000000 01000000 00000000";
 
+// The action that is being carried out.
+fn moving(e: &Executive<Cart>) -> Option<u8> {
+    match e.phase() {
+        Phase::Moving(_, action) => Some(action),
+        _ => None,
+    }
+}
+
 #[test]
 fn whole_log(rt: HostRuntime) -> Result<(), Fail> {
     let mut e = executive()?;
@@ -33,13 +43,13 @@ fn log_too_short_at_every_byte(rt: HostRuntime) -> Result<(), Fail> {
         let mut e = executive()?;
         if size < 22 {
             runs_to(&rt, &mut e, TAPE, size, 16, b"")?;
-            assert!(rt; matches!(e.phase(), Phase::Moving(_, 6)));
+            assert_eq!(rt; moving(&e), Some(6));
         } else if size < 30 {
             runs_to(&rt, &mut e, TAPE, size, 16, SWITCH)?;
-            assert!(rt; matches!(e.phase(), Phase::Moving(_, 6)));
+            assert_eq!(rt; moving(&e), Some(6));
         } else {
             runs_to(&rt, &mut e, TAPE, size, 16, SWITCH_AND_REFUSAL)?;
-            assert!(rt; matches!(e.phase(), Phase::Closed));
+            assert_eq!(rt; e.phase(), Phase::Closed);
         }
     }
     Ok(())

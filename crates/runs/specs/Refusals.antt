@@ -6,30 +6,28 @@ use Rattle.records.specs.Refusals.{numbered_read, numbered_write}
 use Rattle.runs.specs.declared.refusal.TapeRefusal.{TapeRefusal}
 use Rattle.runs.specs.declared.refusal.TapeRefusal.TheVariants.{LogRecord}
 use Rattle.runs.specs.declared.refusal.RunRefusal.{RunRefusal}
-use Rattle.runs.specs.declared.refusal.RunRefusal.TheVariants.{Read as EndsRead, Tape as EndsTape, Write as EndsWrite}
+use Rattle.runs.specs.declared.refusal.RunRefusal.TheVariants.{Read, Tape, Write}
 use Rattle.runs.specs.declared.refusal.RecordRefusal.{RecordRefusal}
-use Rattle.runs.specs.declared.refusal.RecordRefusal.TheVariants.{State, Call, Read, Tape}
+use Rattle.runs.specs.declared.refusal.RecordRefusal.TheVariants.{State, Call, Ends}
 
 abbrev pub numbered : TapeRefusal → ℕ
 numbered LogRecord = 15
 
 abbrev pub numbered_run : RunRefusal → ℕ
-numbered_run (EndsRead x) = numbered_read x
-numbered_run (EndsTape x) = numbered x
-numbered_run (EndsWrite x) = numbered_write x
+numbered_run (Read x) = numbered_read x
+numbered_run (Tape x) = numbered x
+numbered_run (Write x) = numbered_write x
 
 abbrev pub numbered_record : RecordRefusal → ℕ
 numbered_record (State x) = states.numbered x
 numbered_record (Call x) = calls.numbered x
-numbered_record (Read x) = numbered_read x
-numbered_record (Tape x) = numbered x
+numbered_record (Ends x) = numbered_run x
 
 -- what a state or a call is refused for does not end a run
 abbrev pub ending_of : RecordRefusal → Option RunRefusal
 ending_of (State x) = None
 ending_of (Call x) = None
-ending_of (Read x) = Some (EndsRead x)
-ending_of (Tape x) = Some (EndsTape x)
+ending_of (Ends x) = Some x
 
 -- the number that a run ends with, 0 at its tape's end
 abbrev pub end_number : Option RunRefusal → ℕ

@@ -8,6 +8,7 @@ use crate::refusal::RecordRefusal;
 use executive::held::Executive;
 use guard::Guard;
 use guard::reading::Reading;
+use guard::reason::Reason;
 use history::calls::{Ticket, Totals};
 use records::record::{Noted, Record};
 
@@ -28,7 +29,7 @@ fn switched<G: Guard>(g: &G, stored: Option<Reading<G::State>>, t: Ticket) -> Op
     ensures { result ≡ switch (G.Guard.meaning g.now) stored t }
 {
     match stored {
-        Some(r) if t.reason != 0 => Some(Record::Switch {
+        Some(r) if t.reason != u8::from(Reason::Stays) => Some(Record::Switch {
             tick: t.tick,
             reason: t.reason,
             reading: noted(g, r),
@@ -37,7 +38,7 @@ fn switched<G: Guard>(g: &G, stored: Option<Reading<G::State>>, t: Ticket) -> Op
     }
 }
 
-// A begin and an observe differ in the call alone; one function of both would take the call as a parameter and be no shorter.
+// A begin and an observe differ in the call alone; a function of both would take it as a parameter, and a clause that it keeps `Took`.
 pub(crate) fn begin<G: Guard>(
     e: &mut Executive<G>,
     n: Noted,

@@ -50,8 +50,8 @@ impl Refusal for RunRefusal {
 pub(crate) enum RecordRefusal {
     State(StateRefusal),
     Call(CallRefusal),
-    Read(ReadRefusal),
-    Tape(TapeRefusal),
+    // the run ends with it
+    Ends(RunRefusal),
 }
 
 impl RecordRefusal {
@@ -61,8 +61,7 @@ impl RecordRefusal {
     {
         match self {
             RecordRefusal::State(_) | RecordRefusal::Call(_) => None,
-            RecordRefusal::Read(x) => Some(RunRefusal::Read(x)),
-            RecordRefusal::Tape(x) => Some(RunRefusal::Tape(x)),
+            RecordRefusal::Ends(x) => Some(x),
         }
     }
 }
@@ -74,8 +73,7 @@ impl Refusal for RecordRefusal {
         match self {
             RecordRefusal::State(x) => x.number(),
             RecordRefusal::Call(x) => x.number(),
-            RecordRefusal::Read(x) => x.number(),
-            RecordRefusal::Tape(x) => x.number(),
+            RecordRefusal::Ends(x) => x.number(),
         }
     }
 }

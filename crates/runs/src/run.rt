@@ -20,6 +20,7 @@ use records::writer::write;
 // What a run came to: how many bytes of the log were written, and the refusal that ended it, none at the tape's end.
 #[derive(Clone, Copy, Debug, PartialEq, Eq)]
 pub struct Ended {
+    // a number beside the log, which is lent and has its size
     pub written: usize,
     pub refusal: Option<RunRefusal>,
 }
@@ -46,7 +47,7 @@ fn carry_out<G: Guard>(e: &mut Executive<G>, r: Record) -> Result<Option<Record>
         Record::Observe { reading } => deed::observe(e, reading),
         Record::Close => deed::close(e),
         Record::Switch { .. } | Record::Refusal { .. } | Record::Closing { .. } => {
-            Err(RecordRefusal::Tape(TapeRefusal::LogRecord))
+            Err(RecordRefusal::Ends(RunRefusal::Tape(TapeRefusal::LogRecord)))
         }
     }
 }
@@ -69,7 +70,7 @@ fn next_due<G: Guard, W: Witness<G>>(
             w.saw(place, r, due.entry, e);
             Some(due)
         }
-        Err(x) => Some(Due::of(place, Err(RecordRefusal::Read(x)))),
+        Err(x) => Some(Due::of(place, Err(RecordRefusal::Ends(RunRefusal::Read(x))))),
     }
 }
 
@@ -131,7 +132,6 @@ pub fn run_watched<G: Guard, W: Witness<G>>(
     run_through(e, tape, log, w)
 }
 
-// The log is lent and has its size, so what is written of it is a number beside it and no collection that grows.
 // Makes the calls that the records of the tape ask for, in order, and logs what they come to. A grant is spent before its
 // decision is logged. The run ends at the tape's end, at a record that has no place on it, or where the log has no room.
 pub fn run<G: Guard>(e: &mut Executive<G>, tape: &[u8], log: &mut [u8]) -> Ended
