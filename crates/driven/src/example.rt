@@ -20,7 +20,7 @@ const WHOLE: &[u8] = b"4D4C05 00000000 03 F4010000 00000000 00000000 C800
     4D4C06 02000000 06
     4D4C07 01000000 01000000 01000000 01000000 00000000";
 
-// The action that is being carried out.
+// The action that is being carried out. Bound by copy: a pattern that looks into it, as in `matches!`, gets no proof.
 fn moving(e: &Executive<Cart>) -> Option<u8> {
     match e.phase() {
         Phase::Moving(_, action) => Some(action),
