@@ -26,7 +26,7 @@ impl<G: Guard> Executive<G> {
         self.step(call)
     }
 
-    // A call that is accepted without more: a begin or an observe.
+    // A call that is accepted without more: a begin or an observe. Each call makes its `Result` of an `Answer`, which is none itself.
     fn accept(&mut self, call: Call<G::State>) -> Result<(), CallRefusal>
         requires { Own call Accepted }
         ensures { Took (G.Guard.meaning self.old.guard) call (accepting result) self.old self.new }

@@ -23,11 +23,11 @@ pub fn planner_ticks(heap: Global, log: &[u8]) -> Result<Planned, LogFault>
     let mut open = None;
     loop {
         let at = log.len() - reader.rest().len();
-        // with `map_err(..)?` in place of the third arm, what it answers is not proved
-        let r = match reader.next() {
-            Ok(Some(r)) => r,
-            Ok(None) => return Ok(Planned { ranges, open }),
-            Err(refusal) => return Err(LogFault::Unread(at, refusal)),
+        let Some(r) = reader
+            .next()
+            .map_err(|refusal| LogFault::Unread(at, refusal))?
+        else {
+            return Ok(Planned { ranges, open });
         };
         if !is_log(r) {
             return Err(LogFault::OfTape(at));

@@ -16,7 +16,7 @@ fn gust_at(gusts: &[u8], tick: u16) -> u8
     gusts.get(usize::from(tick)).copied().unwrap_or(0)
 }
 
-// Drives the machine by its fallback until it is at rest, and prints a line for each tick.
+// Drives the machine by its fallback until it is at rest, and prints a line for each tick. Kind and guard stand apart, as at `Shown`.
 pub fn brake<G: Guard>(
     rt: &HostRuntime,
     kind: Kind,

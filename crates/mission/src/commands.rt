@@ -76,7 +76,7 @@ pub fn run<'a, T: Task>(rt: &HostRuntime, words: &'a [String]) -> Result<(), Fau
     }
 }
 
-// From the state of these numbers, with a charge of 1,000.
+// From the state of these numbers, with a charge of 1,000. Kind and guard stand apart, as at `Shown`.
 fn show_from<'a, G: Guard + Copy>(
     rt: &HostRuntime,
     kind: Kind,

@@ -46,7 +46,8 @@ fn why(reason: u8) -> &'static str {
     }
 }
 
-// Flies a scripted mission, with the most charge drawn in each tick, and prints a line for each tick.
+// Flies a scripted mission, with the most charge drawn in each tick, and prints a line for each tick. Kind and guard stand apart, as
+// at `Shown`.
 pub fn demo<'a, G: Guard + Copy>(
     rt: &HostRuntime,
     kind: Kind,

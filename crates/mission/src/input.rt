@@ -41,7 +41,7 @@ fn no_hex<'a>(fault: HexFault, word: &'a str) -> Fault<'a> {
 }
 
 impl<'a> Source<'a> {
-    // The source of `COMMAND [--hex] FILE`.
+    // The source of `COMMAND [--hex] FILE`. No `Task`, since these commands have no guard and this one option.
     pub fn named(words: &'a [String]) -> Result<Source<'a>, Fault<'a>>
         ensures { IfOk result (λ source. length words.now ≡ word_count source.form) }
     {

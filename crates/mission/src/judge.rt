@@ -4,6 +4,7 @@ use guard::{Guard, rule};
 use std::io;
 
 // Prints which actions are admissible at the reading, a gust that rules out each other one, and whether it is calm.
+// Kind and guard stand apart, as at `Shown`.
 pub fn judge<G: Guard>(
     rt: &HostRuntime,
     kind: Kind,

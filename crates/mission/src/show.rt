@@ -16,7 +16,7 @@ fn print_refusal(rt: &HostRuntime, offset: usize, refusal: ReadRefusal) -> io::R
 // Prints a line for each record up to the end of the tape, or to the first that cannot be read.
 fn print(rt: &HostRuntime, tape: &[u8]) -> io::Result<()> {
     let mut reader = Reader::new(tape);
-    // counted here, since a reader answers an `Option` or a refusal and is no iterator
+    // counted here, since a reader stays where it was at a fault, so that an iterator over it would have no end
     let mut number: usize = 0;
     loop {
         match reader.next() {

@@ -16,7 +16,7 @@ pub(crate) fn noted<G: Guard>(g: &G, r: Reading<G::State>) -> Noted
     }
 }
 
-// The reading that has these numbers.
+// The reading that has these numbers. No `TryFrom`, since the guard names states.
 pub(crate) fn reading<G: Guard>(g: &G, n: Noted) -> Result<Reading<G::State>, StateRefusal>
     ensures { result ≡ reading_of (G.Guard.meaning g.now) n }
 {

@@ -60,6 +60,8 @@ fn next_due<G: Guard, W: Witness<G>>(
     w: &mut W,
 ) -> Option<Due>
     ensures due { NextDue (G.Guard.meaning e.old.guard) place (unread reader.old) result e.old e.new (unread reader.new) }
+
+    // as in `act` of an executive: said of each function that changes it
     ensures guard { e.new.guard ≡ e.old.guard }
     ensures mission { e.new.mission ≡ e.old.mission }
 {
@@ -97,6 +99,7 @@ fn run_through<G: Guard, W: Witness<G>>(
     let mut place = 0u32;
     let mut written = 0;
     while let Some(due) = next_due(e, &mut reader, place, w) {
+        // no `?`, since an early end answers what was written too
         match keep(log, written, due.entry) {
             Ok(end) => written = end,
             Err(x) => {

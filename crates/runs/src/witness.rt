@@ -9,7 +9,7 @@ pub trait Witness<G: Guard> {
 }
 
 // Nobody.
-#[derive(Clone, Copy)]
+#[derive(Clone, Copy, Debug, PartialEq, Eq)]
 pub struct Unseen;
 
 impl<G: Guard> Witness<G> for Unseen {

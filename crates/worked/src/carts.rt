@@ -1,4 +1,4 @@
-use crate::given::{recovers, region};
+use crate::given::{draws, recovers, region};
 use cart::Cart;
 use guard::Guard;
 use guard::refusal::Refusal;
@@ -142,7 +142,7 @@ fn draws_and_ticks(rt: HostRuntime) -> Result<(), Fail> {
     let cart = Cart::new(1000)?;
     let rolling = cart.state((500, -5, 0))?;
     let resting = cart.state((500, 0, 0))?;
-    for (a, most) in [
+    let most = [
         (0, 4),
         (1, 3),
         (2, 2),
@@ -152,10 +152,9 @@ fn draws_and_ticks(rt: HostRuntime) -> Result<(), Fail> {
         (6, 4),
         (8, 0),
         (255, 0),
-    ] {
-        assert_eq!(rt; cart.draw(rolling, a), most);
-        assert_eq!(rt; cart.draw(resting, a), most);
-    }
+    ];
+    draws(&rt, &cart, rolling, &most);
+    draws(&rt, &cart, resting, &most);
     assert_eq!(rt; cart.draw(rolling, 7), 1);
     assert_eq!(rt; cart.draw(resting, 7), 0);
     assert_eq!(rt; (cart.ticks(rolling), cart.ticks(resting)), (3, 0));

@@ -1,4 +1,4 @@
-use crate::given::{recovers, region};
+use crate::given::{draws, recovers, region};
 use drone::Drone;
 use guard::Guard;
 use guard::refusal::Refusal;
@@ -88,7 +88,7 @@ fn draws_and_ticks(rt: HostRuntime) -> Result<(), Fail> {
     let drone = Drone::new(20, 20, 10)?;
     let flying = drone.state((5, 10, 5))?;
     let landed = drone.state((5, 10, 0))?;
-    for (a, most) in [
+    let most = [
         (0, 2),
         (1, 3),
         (2, 3),
@@ -97,10 +97,9 @@ fn draws_and_ticks(rt: HostRuntime) -> Result<(), Fail> {
         (5, 4),
         (7, 0),
         (255, 0),
-    ] {
-        assert_eq!(rt; drone.draw(flying, a), most);
-        assert_eq!(rt; drone.draw(landed, a), most);
-    }
+    ];
+    draws(&rt, &drone, flying, &most);
+    draws(&rt, &drone, landed, &most);
     assert_eq!(rt; (drone.draw(flying, 6), drone.draw(landed, 6)), (2, 0));
     assert_eq!(rt; (drone.ticks(flying), drone.ticks(landed)), (5, 0));
     assert_eq!(rt; (drone.fallback(flying), drone.fallback_draw()), (6, 2));

@@ -1,6 +1,7 @@
 use guard::Guard;
 use guard::geometry::{Point, Region};
 use guard::reading::Reading;
+use std::process::Abort;
 use std::test::Fail;
 
 // The region with these corners.
@@ -32,4 +33,11 @@ pub(crate) fn reading<G: Guard>(
 // Whether the state with these numbers is recoverable with the most charge.
 pub(crate) fn recovers<G: Guard>(g: &G, n: (i32, i32, i32)) -> Result<bool, Fail> {
     Ok(g.recoverable(reading(g, n, 65535)?))
+}
+
+// Each of these actions draws at most so much at the state.
+pub(crate) fn draws<G: Guard>(rt: &impl Abort, g: &G, s: G::State, most: &[(u8, u16)]) {
+    for (a, most) in most {
+        assert_eq!(rt; g.draw(s, *a), *most);
+    }
 }

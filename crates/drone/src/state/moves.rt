@@ -17,7 +17,7 @@ pub(crate) const ACTIONS: u8 = 7;
 
 pub(crate) const GUSTS: u8 = 9;
 
-// Actions are numbers, as every guard's are; an enum of them would be made in each function only to be matched on.
+// Actions are numbers, as every guard's are; an enum of them would be made in `after` and in `draw` only to be matched on.
 const HOVER: u8 = 0;
 
 const X_UP: u8 = 1;

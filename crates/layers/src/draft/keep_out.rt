@@ -1,7 +1,7 @@
-ghost use Rattle.std.specs.Prelude.{◌≡◌, IsTrue};
+ghost use Rattle.std.specs.Prelude.{IsTrue};
 ghost use Rattle.layers.specs.Upright.{upright as proper};
 
-use guard::geometry::{Point, Region};
+use guard::geometry::Region;
 
 // A region that a draft can hold: no upper coordinate is below its lower one.
 #[derive(Clone, Copy)]
