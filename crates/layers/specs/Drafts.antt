@@ -1,5 +1,5 @@
 -- A draft by the regions that were added to it, and what adding a region answers and leaves.
-use Rattle.std.specs.Prelude.{◌≡◌, true, false, cond, ◌&&◌, List, [], ◌∷◌, ◌++◌, length, map, Ok, Err, Result, MatchResult, nat_lt}
+use Rattle.std.specs.Prelude.{◌≡◌, true, false, cond, ◌&&◌, List, [], ◌∷◌, ◌++◌, length, map, take, Ok, Err, Result, MatchResult, nat_lt}
 use Rattle.guard.specs.declared.geometry.Region.{Region}
 use Rattle.layers.specs.declared.draft.Draft.{Draft}
 use Rattle.layers.specs.declared.draft.keep_out.KeepOut.{KeepOut}
@@ -7,9 +7,13 @@ use Rattle.layers.specs.declared.draft.refusal.DraftRefusal.{DraftRefusal}
 use Rattle.layers.specs.declared.draft.refusal.DraftRefusal.TheVariants.{Inverted, Full}
 use Rattle.layers.specs.Upright.{upright}
 
+-- the places of a draft that are taken
+abbrev pub keep_outs : Draft → List KeepOut
+keep_outs d = take d.count d.regions
+
 -- the regions that were added, in their order
 abbrev pub drafted : Draft → List Region
-drafted d = map (λ k. k.region) d.regions.items
+drafted d = map (λ k. k.region) (keep_outs d)
 
 -- what adding the region b to a draft of the regions bs answers, and what the draft then holds
 abbrev pub answer : List Region → Region → Result (Unit {0}) DraftRefusal

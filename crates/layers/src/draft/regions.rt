@@ -1,11 +1,10 @@
 ghost use Rattle.std.specs.Prelude.{◌≡◌, [], OnErr};
-ghost use Rattle.layers.specs.Drafts.{drafted, answer, added, TakesUpright};
+ghost use Rattle.layers.specs.Drafts.{keep_outs, drafted, answer, added, TakesUpright};
 ghost use Rattle.layers.specs.Fence.{outside, clear};
 
 use super::Draft;
 use super::keep_out::KeepOut;
 use super::refusal::DraftRefusal;
-use arrayvec::ArrayVec;
 use guard::geometry::{Point, Region};
 
 impl TryFrom<Region> for KeepOut {
@@ -42,7 +41,8 @@ impl Draft {
         ensures { drafted result ≡ [] }
     {
         Draft {
-            regions: ArrayVec::new(),
+            regions: [KeepOut::default(); 16],
+            count: 0,
         }
     }
 
@@ -53,22 +53,32 @@ impl Draft {
         ensures unaltered { OnErr result (self.new ≡ self.old) }
     {
         let region = KeepOut::try_from(region)?;
-        self.regions
-            .try_push(region)
-            .map_err(|_| DraftRefusal::Full)
+        if self.count == self.regions.len() {
+            return Err(DraftRefusal::Full);
+        }
+        self.regions[self.count] = region;
+        self.count += 1;
+        Ok(())
+    }
+
+    // The regions that were added.
+    fn taken(&self) -> &[KeepOut]
+        ensures { result.now ≡ keep_outs self.now }
+    {
+        &self.regions[..self.count]
     }
 
     // Whether the point lies in none of the regions.
     pub(crate) fn excludes(&self, p: Point) -> bool
         ensures { result ≡ outside (drafted self.now) p }
     {
-        self.regions.iter().all(|k| !k.region.holds(p))
+        self.taken().iter().all(|k| !k.region.holds(p))
     }
 
     // Whether the region touches none of the regions.
     pub(crate) fn clears(&self, c: &Region) -> bool
         ensures { result ≡ clear (drafted self.now) c.now }
     {
-        self.regions.iter().all(|k| !k.region.touches(c))
+        self.taken().iter().all(|k| !k.region.touches(c))
     }
 }
