@@ -4,6 +4,10 @@ use Rattle.std.specs.List.{AllByRecursion}
 use Rattle.std.proofs.lemmas.Int.{of_z-to_z}
 use Rattle.records.specs.LittleEndian.{le, number, signed_le, signed_number}
 
+pub length_le : (width n : ℕ) → length (le width n) ≡ width
+length_le zero n = refl
+length_le (suc width) n = ap suc (length_le width (n / 256))
+
 pub number_le : (width n : ℕ) → n < 256 ^ width → number (le width n) ≡ n
 number_le zero n h = omega arith
 number_le (suc width) n h =
@@ -37,6 +41,9 @@ le_four n =
     let second : n / 65536 ≡ n / 256 / 256 = omega arith in
     let third : n / 16777216 ≡ n / 256 / 256 / 256 = omega arith in
     rw (second, third)
+
+pub le_one : (n : ℕ) → n < 256 → n ∷ [] ≡ le 1 n
+le_one n h = let e : n ≡ n % 256 = omega arith in ap (λ (b : ℕ). b ∷ []) e
 
 -- the number that four bytes, or two, write
 pub number_four : (bs : List ℕ) → length bs ≡ 4 → get_or bs 0 0 + get_or bs 1 0 * 256 + get_or bs 2 0 * 65536 + get_or bs 3 0 * 16777216 ≡ number bs

@@ -1,15 +1,20 @@
 -- Where a record is read, the bytes taken are that record's bytes.
-use Rattle.std.proofs.Common.{◌≡◌, ℕ, ◌+◌, ◌<◌, ◌≤◌, Bool, true, false, cond, eqb, List, [], ◌∷◌, ◌++◌, length, take, drop, Some, Option, sym, refl, ap, ◌∙◌, append_assoc, arith, length-drop, take-append-drop, length-take, drop-drop, take-add}
+use Rattle.std.proofs.Common.{◌≡◌, ℕ, ◌+◌, ◌<◌, ◌≤◌, Bool, true, false, cond, eqb, ltb, List, [], ◌∷◌, ◌++◌, length, take, drop, Some, None, Ok, Err, Option, Result, sym, refl, ap, ◌∙◌, append_assoc, arith, length-drop, take-append-drop, length-take, drop-drop, take-add, Bor}
 use Rattle.std.specs.List.{AllByRecursion}
+use Rattle.std.specs.Str.{bytes_eq}
 use Rattle.std.proofs.ByRecursion.{All-take, All-drop}
-use Rattle.std.proofs.lemmas.Bool.{eqb-true}
+use Rattle.std.proofs.lemmas.Slice.Eq.{bytes_eq-Decides}
+use Rattle.std.proofs.lemmas.Bool.{eqb-true, ltb-false}
 use Rattle.records.specs.Bytes.{reading_bytes, bytes, body, kind}
 use Rattle.records.specs.Kinds.{number_of, mark_of, length_of, kinds, kind_of, first_with}
 use Rattle.records.specs.LittleEndian.{le, signed_le}
-use Rattle.records.specs.Reads.{field, signed_field, reading_at, record_of}
+use Rattle.records.specs.Reads.{Found, field, signed_field, reading_at, record_of, read_body, read_kind}
+use Rattle.records.specs.Reading.{Decoded, Decodes}
 use Rattle.records.specs.declared.record.Kind.{Kind}
 use Rattle.records.specs.declared.record.Kind.TheVariants.{Begin, Decide, Observe, Close, Switch, Refusal, Closing}
 use Rattle.records.specs.declared.record.Record.{Record}
+use Rattle.records.specs.declared.refusal.ReadRefusal.TheVariants.{Cut, WrongMark, UnknownKind}
+use Rattle.records.specs.declared.refusal.ReadRefusal.{ReadRefusal}
 use Rattle.records.proofs.Endian.{le_number, signed_le_number}
 
 -- the bytes are bytes
@@ -78,8 +83,32 @@ named : (n : ℕ) (k : Kind) (ks : List Kind) → first_with n ks ≡ Some k →
 named n k [] e = cc
 named n k (j ∷ ks) e = named_step n j k (first_with n ks) (eqb n (number_of j)) refl e (named n k ks)
 
+not_found : (x : ReadRefusal) (f : Found) → Err x ≡ Ok f → ⊥
+not_found x f e = cc
+
 module _ (mark : List ℕ) (byte : ℕ) (bs : List ℕ) (small : Bytes bs) (r : Record) (rest : List ℕ) where
-  pub taken : (k : Kind) → mark ≡ mark_of k → kind_of byte ≡ Some k → length_of k ≤ length bs → r ≡ record_of k bs → rest ≡ drop (length_of k) bs → mark ++ (byte ∷ bs) ≡ bytes r ++ rest
-  taken k m n long p q =
+  whole : (k : Kind) → mark ≡ mark_of k → byte ≡ number_of k → length_of k ≤ length bs → r ≡ record_of k bs → rest ≡ drop (length_of k) bs → mark ++ (byte ∷ bs) ≡ bytes r ++ rest
+  whole k m n long p q =
       let t : take (length_of k) bs ++ drop (length_of k) bs ≡ bs = take-append-drop (length_of k) bs in
-      rw (m, named byte k kinds n, p, q, kind_back k bs, body_back bs small k long) (sym (append_assoc (mark_of k) (number_of k ∷ take (length_of k) bs) (drop (length_of k) bs) ∙ ap (λ xs. mark_of k ++ (number_of k ∷ xs)) t))
+      rw (m, n, p, q, kind_back k bs, body_back bs small k long) (sym (append_assoc (mark_of k) (number_of k ∷ take (length_of k) bs) (drop (length_of k) bs) ∙ ap (λ xs. mark_of k ++ (number_of k ∷ xs)) t))
+
+  by_length : (k : Kind) (cut : Bool) → ltb (length bs) (length_of k) ≡ cut → mark ≡ mark_of k → byte ≡ number_of k → cond {A = Result Found ReadRefusal} cut (Err Cut) (Ok (record_of k bs, drop (length_of k) bs)) ≡ Ok (r, rest) → mark ++ (byte ∷ bs) ≡ bytes r ++ rest
+  by_length k true h m n e = absurd (not_found Cut (r, rest) e)
+  by_length k false h m n e =
+      let p : ◌≡◌ {A = Found} (record_of k bs, drop (length_of k) bs) (r, rest) = cc in
+      whole k m n (ltb-false (length bs) (length_of k) h) (sym (ap (λ (x : Found). x.0) p)) (sym (ap (λ (x : Found). x.1) p))
+
+  by_mark : (k : Kind) (same : Bool) → bytes_eq mark (mark_of k) ≡ same → byte ≡ number_of k → cond same (read_body k bs) (Err WrongMark) ≡ Ok (r, rest) → mark ++ (byte ∷ bs) ≡ bytes r ++ rest
+  by_mark k true h n e = by_length k (ltb (length bs) (length_of k)) refl ((bytes_eq-Decides mark (mark_of k)).0 h) n e
+  by_mark k false h n e = absurd (not_found WrongMark (r, rest) e)
+
+  by_kind : (o : Option Kind) → ((k : Kind) → o ≡ Some k → byte ≡ number_of k) → read_kind o mark bs ≡ Ok (r, rest) → mark ++ (byte ∷ bs) ≡ bytes r ++ rest
+  by_kind None name e = absurd (not_found UnknownKind (r, rest) e)
+  by_kind (Some k) name e = by_mark k (bytes_eq mark (mark_of k)) refl (name k refl) e
+
+  pub taken : read_kind (kind_of byte) mark bs ≡ Ok (r, rest) → mark ++ (byte ∷ bs) ≡ bytes r ++ rest
+  taken e = by_kind (kind_of byte) (λ k. named byte k kinds) e
+
+pub decodes : (mark : List ℕ) (byte : ℕ) (bs : List ℕ) → Bytes bs → (y : Result (Record × Bor (List ℕ)) ReadRefusal) → Decoded (read_kind (kind_of byte) mark bs) y → Decodes (mark ++ (byte ∷ bs)) y
+decodes mark byte bs small (Ok p) e = taken mark byte bs small p.0 p.1.now e
+decodes mark byte bs small (Err x) e = tt

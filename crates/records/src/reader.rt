@@ -46,9 +46,12 @@ fn record(kind: Kind, body: &[u8]) -> Record
 }
 
 // The record after its mark and its kind byte, whose body begins what is handed, and what is left after it.
-fn decode<'a>(mark: [u8; 2], kind: u8, body: &'a [u8]) -> Result<(Record, &'a [u8]), ReadRefusal>
-    ensures value { Decoded (read_kind (kind_of kind) mark body.now) result }
-    ensures taken { Decodes (mark ++ (kind ∷ body.now)) result }
+fn decode_kind<'a>(
+    mark: [u8; 2],
+    kind: u8,
+    body: &'a [u8],
+) -> Result<(Record, &'a [u8]), ReadRefusal>
+    ensures { Decoded (read_kind (kind_of kind) mark body.now) result }
 {
     let kind = Kind::try_from(kind)?;
     if mark != kind.mark() {
@@ -59,6 +62,13 @@ fn decode<'a>(mark: [u8; 2], kind: u8, body: &'a [u8]) -> Result<(Record, &'a [u
         return Err(ReadRefusal::Cut);
     }
     Ok((record(kind, body), &body[n..]))
+}
+
+fn decode<'a>(mark: [u8; 2], kind: u8, body: &'a [u8]) -> Result<(Record, &'a [u8]), ReadRefusal>
+    ensures value { Decoded (read_kind (kind_of kind) mark body.now) result }
+    ensures taken { Decodes (mark ++ (kind ∷ body.now)) result }
+{
+    decode_kind(mark, kind, body)
 }
 
 impl<'a> Reader<'a> {
