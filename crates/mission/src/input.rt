@@ -22,7 +22,7 @@ pub struct Source<'a> {
 }
 
 // The bytes as they are.
-pub fn contents(rt: &HostRuntime, word: &str) -> io::Result<Vec<u8>> {
+fn contents(rt: &HostRuntime, word: &str) -> io::Result<Vec<u8>> {
     if word != "-" {
         return fs::read(rt, word);
     }

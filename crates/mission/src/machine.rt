@@ -1,7 +1,8 @@
-ghost use Rattle.std.specs.Prelude.{◌≡◌, ◌⊎◌, pos, IfOk, IfErr};
+ghost use Rattle.std.specs.Prelude.{◌≡◌, ◌⊎◌, pos, length, IfOk, IfErr};
 ghost use Rattle.mission.specs.Faults.{OfMachine, OfState};
-ghost use Rattle.mission.specs.Kinds.{form, Padded};
+ghost use Rattle.mission.specs.Kinds.{width, form as misformed, Padded};
 ghost use Rattle.mission.specs.Machines.{halfway, Centred};
+ghost use Rattle.mission.specs.Words.{parts};
 ghost use Rattle.mission.specs.declared.fault.Why.TheVariants.{NotNumbers};
 
 use crate::fault::Why;
@@ -21,18 +22,30 @@ pub enum Kind {
 }
 
 impl Kind {
-    // The three numbers of a state as it is written: a cart's with two, and 0 for the third.
-    pub fn numbers(self, word: &str) -> Result<(i32, i32, i32), Why>
-        ensures padded { IfOk result (Padded self) }
-        ensures form { IfErr result (λ e. (e ≡ form self) ⊎ (e ≡ NotNumbers)) }
+    // What is wrong with a state that is written with more numbers or fewer.
+    pub fn form(self) -> Why
+        ensures { result ≡ misformed self }
     {
         match self {
+            Kind::Cart => Why::CartForm,
+            Kind::Drone => Why::DroneForm,
+        }
+    }
+
+    // The three numbers of a state as it is written: a cart's with two, and 0 for the third.
+    pub fn numbers(self, word: &str) -> Result<(i32, i32, i32), Why>
+        ensures width { IfOk result (λ _. length (parts word.now) ≡ width self) }
+        ensures padded { IfOk result (Padded self) }
+        ensures form { IfErr result (λ e. (e ≡ misformed self) ⊎ (e ≡ NotNumbers)) }
+    {
+        let form = self.form();
+        match self {
             Kind::Cart => {
-                let [x, v] = words::numbers::<2>(Why::CartForm, word)?;
+                let [x, v] = words::numbers::<2>(form, word)?;
                 Ok((x, v, 0))
             }
             Kind::Drone => {
-                let [x, y, z] = words::numbers::<3>(Why::DroneForm, word)?;
+                let [x, y, z] = words::numbers::<3>(form, word)?;
                 Ok((x, y, z))
             }
         }
@@ -41,7 +54,7 @@ impl Kind {
     // The machine's state of this word.
     pub fn state<G: Guard>(self, g: &G, word: &str) -> Result<G::State, Why>
         ensures padded { IfOk result (λ s. Padded self ((G.Guard.meaning g.now).numbers s)) }
-        ensures fault { IfErr result (OfState (form self)) }
+        ensures fault { IfErr result (OfState (misformed self)) }
     {
         Ok(g.state(self.numbers(word)?)?)
     }

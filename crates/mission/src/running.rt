@@ -6,6 +6,7 @@ use crate::options::Options;
 use crate::telling::Teller;
 use executive::held::Executive;
 use guard::Guard;
+use guard::refusal::Refusal;
 use records::reader::Reader;
 use records::refusal::ReadRefusal;
 use runs::refusal::RunRefusal;
@@ -44,7 +45,7 @@ fn run_telling<'a, G: Guard>(
         _ => None,
     };
     if let Some(refusal) = unread {
-        teller.misread(refusal)?;
+        teller.misread(refusal.number())?;
     }
     teller.show_log(&log[..ended.written.min(log.len())])?;
     teller.finish().map_err(|_| Fault::Output)?;

@@ -4,11 +4,10 @@ use guard::Guard;
 use guard::reading::Reading;
 use guard::refusal::{Refusal, StateRefusal};
 use history::calls::{Answer, Call, Ticket};
-use std::alloc::{AllocError, Global};
 use std::{fmt, io};
 
-// What a line of a script asks: a call, or one with numbers that no state has, which does not reach the executive.
-type Entry<S> = Result<Call<S>, StateRefusal>;
+// Whether a line's call reaches the executive, or why no state has its numbers. The calls stand in a list of their own, each once.
+type Reach = Result<(), StateRefusal>;
 
 // Why a line is not a call that reaches the executive.
 #[derive(Clone, Copy, Debug, PartialEq, Eq)]
@@ -108,24 +107,13 @@ impl fmt::Display for Told {
     }
 }
 
-// The calls among the entries.
-fn calls<S: Copy>(heap: Global, entries: &[Entry<S>]) -> Result<Vec<Call<S>>, AllocError> {
-    let mut calls = Vec::new(heap);
-    for entry in entries {
-        if let Ok(call) = entry {
-            calls.push(*call)?;
-        }
-    }
-    Ok(calls)
-}
-
 // Prints an answer for each line of the script: that of the executive, or the refusal where no state has the line's numbers.
-fn tell<S: Copy>(rt: &HostRuntime, entries: &[Entry<S>], answers: &[Answer]) -> io::Result<()> {
+fn tell(rt: &HostRuntime, lines: &[Reach], answers: &[Answer]) -> io::Result<()> {
     let mut answers = answers.iter();
-    for entry in entries {
-        match entry {
+    for line in lines {
+        match line {
             Err(refusal) => println!(rt; "no {}", refusal.number())?,
-            Ok(_) => {
+            Ok(()) => {
                 if let Some(answer) = answers.next() {
                     println!(rt; "{}", Told(*answer))?;
                 }
@@ -149,20 +137,23 @@ pub fn run<'a, G: Guard + Drop>(
     mission: u32,
     text: &str,
 ) -> Result<(), Fault<'a>> {
-    let mut entries = Vec::new(rt.alloc());
+    let mut calls = Vec::new(rt.alloc());
+    let mut lines = Vec::new(rt.alloc());
     for (i, line) in text.lines().enumerate() {
         let (name, words) = cut(line);
         if name.is_empty() {
             continue;
         }
         match asked(&g, name, words) {
-            Ok(call) => entries.push(Ok(call))?,
-            Err(Unasked::NoState(refusal)) => entries.push(Err(refusal))?,
+            Ok(call) => {
+                calls.push(call)?;
+                lines.push(Ok(()))?;
+            }
+            Err(Unasked::NoState(refusal)) => lines.push(Err(refusal))?,
             Err(Unasked::NotCall) => return Err(Fault::Line(i)),
         }
     }
-    let calls = calls(rt.alloc(), entries.as_slice())?;
     let answers = replay(rt.alloc(), g, mission, calls.as_slice())?;
-    tell(rt, entries.as_slice(), answers.as_slice())?;
+    tell(rt, lines.as_slice(), answers.as_slice())?;
     Ok(())
 }

@@ -1,7 +1,11 @@
+ghost use Rattle.std.specs.Prelude.{◌≡◌, ℕ, List};
+ghost use Rattle.mission.specs.Options.{among, brake_options, judge_options, calls_options, run_options};
+
 use crate::fault::{Fault, Why};
+use crate::input::{Form, Source};
 use crate::machine::Kind;
 use crate::options::Options;
-use crate::{brake, input, judge, running, script, words};
+use crate::{brake, judge, running, script, words};
 use guard::Guard;
 use guard::reading::Reading;
 
@@ -29,8 +33,11 @@ impl<'a> Job<'a> {
 
 // What a command asks of a guard, whatever the machine and its layers.
 pub trait Task {
+    ghost options: { List (List ℕ) };
+
     // Whether the task has the option of this name.
-    fn takes(option: &str) -> bool;
+    fn takes(option: &str) -> bool
+        ensures { result ≡ among option.now options };
 
     fn carry_out<'a, G: Guard + Drop>(
         rt: &HostRuntime,
@@ -52,6 +59,8 @@ pub struct Calls;
 pub struct Run;
 
 impl Task for Brake {
+    ghost options = { brake_options };
+
     fn takes(option: &str) -> bool {
         matches!(option, "--charge" | "--gusts")
     }
@@ -69,6 +78,8 @@ impl Task for Brake {
 }
 
 impl Task for Judge {
+    ghost options = { judge_options };
+
     fn takes(option: &str) -> bool {
         option == "--charge"
     }
@@ -85,6 +96,8 @@ impl Task for Judge {
 }
 
 impl Task for Calls {
+    ghost options = { calls_options };
+
     fn takes(option: &str) -> bool {
         option == "--mission"
     }
@@ -94,13 +107,18 @@ impl Task for Calls {
         g: G,
         job: Job<'a>,
     ) -> Result<(), Fault<'a>> {
-        let bytes = input::contents(rt, job.word).map_err(|_| Fault::Word(Why::NoFile, job.word))?;
-        let text = String::from_utf8(bytes).map_err(|_| Fault::Word(Why::NoFile, job.word))?;
+        let (form, word) = (Form::Binary, job.word);
+        let bytes = Source { form, word }
+            .bytes(rt)
+            .map_err(|_| Fault::Word(Why::NoFile, word))?;
+        let text = String::from_utf8(bytes).map_err(|_| Fault::Word(Why::NoFile, word))?;
         script::run(rt, g, job.given.mission, text.as_str())
     }
 }
 
 impl Task for Run {
+    ghost options = { run_options };
+
     fn takes(option: &str) -> bool {
         matches!(
             option,

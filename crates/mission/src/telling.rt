@@ -1,11 +1,9 @@
 use executive::control::Control;
 use executive::held::Executive;
 use guard::Guard;
-use guard::refusal::Refusal;
 use history::phase::Phase;
 use records::reader::Reader;
 use records::record::Record;
-use records::refusal::ReadRefusal;
 use runs::witness::Witness;
 use std::alloc::Global;
 use std::io::{BufWriter, Stdout, Write};
@@ -94,9 +92,9 @@ impl Teller {
         self.due
     }
 
-    // A line for the record after the last one, which cannot be read.
-    pub fn misread(&mut self, refusal: ReadRefusal) -> io::Result<()> {
-        let (next, outcome) = (self.next, Outcome::Refused(refusal.number()));
+    // A line for the record after the last one, which cannot be read and is refused under this number.
+    pub fn misread(&mut self, number: u8) -> io::Result<()> {
+        let (next, outcome) = (self.next, Outcome::Refused(number));
         writeln!(self.out, "{next}: no record -> {outcome}")
     }
 
@@ -116,9 +114,10 @@ impl Teller {
     }
 
     // Writes out what has been held back. An error of a line that was told of is only known here.
-    pub fn finish(self) -> io::Result<()> {
-        let Teller { mut out, told, .. } = self;
-        told?;
-        out.flush()
+    pub fn finish(&mut self) -> io::Result<()> {
+        match &self.told {
+            Ok(()) => self.out.flush(),
+            Err(e) => Err(io::Error::from(e.kind())),
+        }
     }
 }

@@ -1,4 +1,5 @@
-ghost use Rattle.std.specs.Prelude.{◌≡◌, ◌<◌, ◌⊎◌, IfOk, IfErr};
+ghost use Rattle.std.specs.Prelude.{◌≡◌, ◌<◌, ◌⊎◌, length, IfOk, IfErr};
+ghost use Rattle.mission.specs.Words.{parts as parts_of};
 ghost use Rattle.mission.specs.declared.fault.Why.TheVariants.{NotNumbers, NotCharge};
 ghost use Rattle.std.specs.List.{AllByRecursion};
 
@@ -29,16 +30,19 @@ pub fn charge(word: &str) -> Result<u16, Why>
 
 // The numbers of a word such as `900,20`, just as many as are asked for.
 pub fn numbers<const N: usize>(form: Why, word: &str) -> Result<[i32; N], Why>
-    ensures { IfErr result (λ e. (e ≡ form) ⊎ (e ≡ NotNumbers)) }
+    ensures count { IfOk result (λ _. length (parts_of word.now) ≡ N) }
+    ensures fault { IfErr result (λ e. (e ≡ form) ⊎ (e ≡ NotNumbers)) }
 {
     let mut parts = word.split(',');
     let mut n = [0; N];
     for x in &mut n {
         *x = number(parts.next().ok_or(form)?)?;
     }
-    match parts.next() {
-        Some(_) => Err(form),
-        None => Ok(n),
+    // counted anew: no invariant of the loop counts the parts
+    if word.split(',').count() == N {
+        Ok(n)
+    } else {
+        Err(form)
     }
 }
 
