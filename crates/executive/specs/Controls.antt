@@ -1,5 +1,5 @@
 -- Who has control, by whether the planner has it.
-use Rattle.std.specs.Prelude.{Bool, true, false}
+use Rattle.std.specs.Prelude.{ℕ, Bool, true, false, List, codes}
 use Rattle.executive.specs.declared.control.Control.{Control}
 use Rattle.executive.specs.declared.control.Control.TheVariants.{Planner, Keeper}
 
@@ -10,3 +10,8 @@ has_planner Keeper = false
 abbrev pub control_of : Bool → Control
 control_of true = Planner
 control_of false = Keeper
+
+-- who has it, in words
+abbrev pub control_text : Control → List ℕ
+control_text Planner = codes "planner"
+control_text Keeper = codes "keeper"

@@ -3,7 +3,7 @@ ghost use Rattle.executive.specs.Controls.{control_of};
 ghost use Rattle.executive.specs.Holding.{held};
 ghost use Rattle.executive.specs.View.{reading_of};
 
-use crate::control::Control;
+pub use crate::control::Control;
 use crate::held::Executive;
 use guard::Guard;
 use guard::reading::Reading;
